@@ -1,6 +1,6 @@
 // Literals, kept as codes.
 ghost use Rattle.std.specs.Prelude.{◌≡◌, ◌+◌, ◌*◌, ◌<◌, ◌≤◌, ◌⊎◌, ◌↔◌, pos, unsigned_abs, IsNone, IfSome};
-ghost use Rattle.sr_base.specs.Literal.{number, variable, complement, has, same, literal_code};
+ghost use Rattle.sr_base.specs.Literal.{number, literal_of, variable, complement, has, same, literal_code};
 
 use std::marker::Model;
 
@@ -37,7 +37,8 @@ impl Lit {
     /// The literal that is written as this number; none for 0 and for a variable above [`MOST_VARS`].
     pub fn new(x: i64) -> Option<Lit>
         ensures none { IsNone result ↔ ((x ≡ pos 0) ⊎ (MOST_VARS < unsigned_abs x)) }
-        ensures some { IfSome result (λ l. number l ≡ x) }
+        ensures some { IfSome result (λ l. l ≡ literal_of x) }
+        ensures number { IfSome result (λ l. number l ≡ x) }
     {
         if x == 0 || x.unsigned_abs() > MOST_VARS as u64 {
             return None;

@@ -1,0 +1,15 @@
+pub mod Assignment
+pub mod Refutation
+pub mod Propagation
+pub mod Substitution
+pub mod Redundancy
+pub mod Chain
+pub mod Meeting
+pub mod Judging
+pub mod Laws
+pub mod Texts
+pub mod Words
+pub mod Tokens
+pub mod Dimacs
+pub mod Witnesses
+pub mod Lsr
