@@ -1,0 +1,35 @@
+// The laws of the definitions, each as the contract of a function with no body.
+ghost use Rattle.sr_model.specs.Laws.{RefutationIsSound, ClosedChainRefutes, UnclosedChainKeeps, RupHolds, RedundancyKeeps, RedundancyIsSound};
+
+/// What is refuted is false: no assignment satisfies the clauses and makes all the literals true.
+pub fn refutation_is_sound()
+    ensures { RefutationIsSound }
+{}
+
+/// Where a chain of hints closes, the clauses refute the literals that it began with, strict or not.
+pub fn closed_chain_refutes()
+    ensures { ClosedChainRefutes }
+{}
+
+/// Where a chain of hints ends unclosed, what it reached follows: each assignment that satisfies the
+/// clauses and makes the first literals true makes all the literals at its end true.
+pub fn unclosed_chain_keeps()
+    ensures { UnclosedChainKeeps }
+{}
+
+/// A clause with the property of reverse unit propagation (RUP) follows: it holds in each assignment that
+/// satisfies the clauses.
+pub fn rup_holds()
+    ensures { RupHolds }
+{}
+
+/// A substitution redundant clause (Buss and Thapen 2019) may be false where the clauses are true, but the
+/// assignment that gives each variable the value of its image then satisfies both.
+pub fn redundancy_keeps()
+    ensures { RedundancyKeeps }
+{}
+
+/// Where the clauses with a redundant one have no solution, they have none without it.
+pub fn redundancy_is_sound()
+    ensures { RedundancyIsSound }
+{}
