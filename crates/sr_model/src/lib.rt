@@ -10,8 +10,9 @@ mod verdict;
 
 pub use images::Image;
 pub use laws::{
-    closed_chain_refutes, redundancy_is_sound, redundancy_keeps, refutation_is_sound, rup_holds,
-    unclosed_chain_keeps,
+    closed_chain_refutes, empty_is_sound, met_is_sound, redundancy_is_sound, redundancy_keeps,
+    refutation_is_sound, rejection_keeps_live, rup_holds, strict_is_verified, taking_judges,
+    taking_keeps_live, unclosed_chain_keeps, verified_is_unsat,
 };
 pub use tokens::{Token, Word};
 pub use verdict::Verdict;
