@@ -5,3 +5,4 @@ pub mod Meetings
 pub mod Judged
 pub mod Strictness
 pub mod Taken
+pub mod Saturation

@@ -5,6 +5,7 @@
 
 mod images;
 mod laws;
+mod plain;
 mod tokens;
 mod verdict;
 
@@ -14,5 +15,6 @@ pub use laws::{
     refutation_is_sound, rejection_keeps_live, rup_holds, strict_is_verified, taking_judges,
     taking_keeps_live, unclosed_chain_keeps, verified_is_unsat,
 };
+pub use plain::{has_no_literal, refutes_plain};
 pub use tokens::{Token, Word};
 pub use verdict::Verdict;
