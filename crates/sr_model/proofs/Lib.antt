@@ -6,3 +6,5 @@ pub mod Judged
 pub mod Strictness
 pub mod Taken
 pub mod Saturation
+pub mod Examples
+pub mod Lives

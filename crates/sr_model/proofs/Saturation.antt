@@ -13,11 +13,11 @@ use Rattle.sr_model.proofs.Chains.{pair_refutes, pair_from}
 pub record NoneNew (b c ls : List Literal) : Type 0 where
   pub none : (l : Literal) → has l ls ≡ true → is_forced b c l ≡ true → has l b ≡ true
 
-forced_tells : (b ks : List Literal) (l : Literal) → is_forced b ks l ≡ true → (k : Literal) → has k ks ≡ true → k ≢ l → has (complement k) b ≡ true
+pub forced_tells : (b ks : List Literal) (l : Literal) → is_forced b ks l ≡ true → (k : Literal) → has k ks ≡ true → k ≢ l → has (complement k) b ≡ true
 forced_tells b [] l f k h ne = absurd cc
 forced_tells b (j ∷ ks) l f k h ne = grind (arith, forced_tells b ks l, same_tells j k, same_tells j l, ne)
 
-forced_from : (b ks : List Literal) (l : Literal) → ((k : Literal) → has k ks ≡ true → k ≢ l → has (complement k) b ≡ true) → is_forced b ks l ≡ true
+pub forced_from : (b ks : List Literal) (l : Literal) → ((k : Literal) → has k ks ≡ true → k ≢ l → has (complement k) b ≡ true) → is_forced b ks l ≡ true
 forced_from b [] l f = refl
 forced_from b (j ∷ ks) l f =
     let rest : is_forced b ks l ≡ true = forced_from b ks l (λ k h ne. f k (grind arith) ne) in

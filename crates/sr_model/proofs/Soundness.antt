@@ -28,6 +28,11 @@ true_literal t (l ∷ ls) h = at (makes_true t l) refl (true_literal t ls)
     at true e r = (l, grind (arith, same_tells l l), e)
     at false e r = let q : (k : Literal) × (has k ls ≡ true) × (makes_true t k ≡ true) = r (grind arith) in (q.0, grind (arith, q.1), q.2)
 
+-- a clause that has a true literal is satisfied
+pub satisfied_by : (t : List ℕ) (c : List Literal) (l : Literal) → has l c ≡ true → makes_true t l ≡ true → satisfies t c ≡ true
+satisfied_by t [] l h m = absurd cc
+satisfied_by t (k ∷ c) l h m = grind (arith, satisfied_by t c l, same_tells k l)
+
 -- the literals of all clauses
 abbrev pub all_literals : List (List Literal) → List Literal
 all_literals [] = []

@@ -1,12 +1,12 @@
 -- Items that are taken one after another.
-use Rattle.std.proofs.Common.{◌≡◌, ◌≢◌, ℕ, Bool, false, List, [], ◌∷◌, ◌++◌, refl, sym, ◌∙◌, ap}
+use Rattle.std.proofs.Common.{true, ◌≡◌, ◌≢◌, ℕ, Bool, false, List, [], ◌∷◌, ◌++◌, refl, sym, ◌∙◌, ap}
 use Rattle.sr_base.specs.Literal.{Literal}
 use Rattle.sr_base.specs.declared.names.Cause.{Cause}
 use Rattle.sr_model.specs.declared.verdict.Verdict.{Verdict}
 use Rattle.sr_model.specs.declared.verdict.Verdict.TheVariants.{Going, Verified, Rejected}
 use Rattle.sr_model.specs.Refutation.{has_empty}
 use Rattle.sr_model.specs.Meeting.{Meeting, met, unmet}
-use Rattle.sr_model.specs.Judging.{Item, Live, first_live, live_with, live_after, item_meets, item_number, ends_proof, verdict_of, judge_from, judge, State, start, after_meeting as meeting_state, after_item, after_items}
+use Rattle.sr_model.specs.Judging.{Item, stepped, dropped, Live, first_live, live_with, live_after, item_meets, item_number, ends_proof, verdict_of, judge_from, judge, State, start, after_meeting as meeting_state, after_item, after_items}
 use Rattle.sr_model.proofs.Soundness.{by_test}
 
 abbrev pub in_state : Live → Verdict → State
@@ -131,3 +131,29 @@ rejection_live strict f before items item id x e r =
     ∙ ap (λ st. after_items strict st (item ∷ items)) (taking_going strict f before e)
     ∙ ap (λ st. after_items strict st items) (rejected_state lv item (item_meets strict lv item) id x v)
     ∙ stays_rejected strict lv id x items)
+
+-- and one that verifies the proof, a step with the empty clause, too
+verified_state : (lv : Live) (item : Item) (m : Meeting) → verdict_of item m Going ≡ Verified → (meeting_state (in_state lv Going) item m ≡ in_state (live_with lv item) Verified) × (m ≡ met) × (ends_proof item ≡ true)
+verified_state lv item met e = by_test (ends_proof item)
+    (λ y. (rw y refl, refl, y))
+    (λ y. let k : Going ≡ Verified = rw y at e in absurd cc)
+verified_state lv item (unmet y) e = absurd cc
+
+ending_keeps : (lv : Live) (item : Item) → ends_proof item ≡ true → live_with lv item ≡ lv
+ending_keeps lv (stepped s) e = rw e refl
+ending_keeps lv (dropped n ids) e = absurd cc
+
+pub verification_live : (strict : Bool) (f : List (List Literal)) (before items : List Item) (item : Item)
+    → judge strict f before ≡ Going → judge strict f (before ++ item ∷ []) ≡ Verified
+    → (after_items strict (start f) (before ++ item ∷ items)).live ≡ live_after (first_live f) before
+verification_live strict f before items item e r =
+    let n = going_has_no_empty strict f before e in
+    let lv : Live = live_after (first_live f) before in
+    let g : judge_from strict (first_live f) before ≡ Going = sym (judge_going strict f before n) ∙ e in
+    let v : verdict_of item (item_meets strict lv item) Going ≡ Verified =
+    sym (going_append strict (first_live f) before (item ∷ []) g) ∙ sym (judge_going strict f (before ++ item ∷ []) n) ∙ r in
+    let s = verified_state lv item (item_meets strict lv item) v in
+    ap (λ st. st.live) (after_append strict (start f) before (item ∷ items)
+    ∙ ap (λ st. after_items strict st (item ∷ items)) (taking_going strict f before e)
+    ∙ ap (λ st. after_items strict st items) s.0
+    ∙ stays_verified strict (live_with lv item) items) ∙ ending_keeps lv item s.2
