@@ -190,6 +190,11 @@ header_faults = (refl, refl, refl, refl, refl, refl, refl, refl)
 abbrev square_bytes : List ℕ
 square_bytes = codes "p cnf 2 4\n1 2 0\n-1 2 0\n1 -2 0\n-1 -2 0\n"
 
+-- an empty clause
+empty_text : formula_of (codes "p cnf 0 1\n0\n") ≡ spells (record { vars = 0; clauses = [] ∷ [] })
+unfolding spelled_from clauses_from same
+empty_text = refl
+
 -- limits: the bytes of a file, numbers of clauses, and variables
 formula_limits : (formula_at shipped (spelled 37 square_bytes) ≡ passes limit.Bytes)
     × (formula_at shipped (spelled 38 square_bytes) ≡ spells (record { vars = 2; clauses = square }))
@@ -224,6 +229,11 @@ id_faults : (read_item (codes "0 x\n") ≡ lsr.misspells BadWord 2)
     × (item_at (limits_of 2 9 100 100) (spelled 100 (codes "5 3 0 0\n")) ≡ lsr.passes limit.Vars)
 unfolding spelled_from numbers_after dropped_after item_at same
 id_faults = (refl, refl, refl, refl, refl, refl, refl, refl)
+
+-- what is left of a line that tokens stand before is no comment
+behind_tokens : (item_at shipped (spelled_from (Some 32) 100 7 (codes "c 5 0 0\n")) ≡ lsr.misspells BadWord 7) × (item_at shipped (spelled_from (Some 10) 100 7 (codes "c 5 0 0\n")) ≡ lsr.none)
+unfolding spelled_from item_at
+behind_tokens = (refl, refl)
 
 -- the items at the front, at most so many
 abbrev front : ℕ → Texts → List Item

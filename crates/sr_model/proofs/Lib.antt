@@ -8,3 +8,4 @@ pub mod Taken
 pub mod Saturation
 pub mod Examples
 pub mod Lives
+pub mod Pivots
