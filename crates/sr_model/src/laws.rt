@@ -35,6 +35,7 @@ pub fn redundancy_is_sound()
 {}
 
 /// Where an item is met and the clauses that are live after it have no solution, those before it have none.
+/// A written witness must have the clause's first literal as its pivot.
 pub fn met_is_sound()
     ensures { MetIsSound }
 {}
@@ -44,7 +45,8 @@ pub fn empty_is_sound()
     ensures { EmptyIsSound }
 {}
 
-/// A formula whose proof is verified has no solution, strict or not.
+/// A formula whose proof is verified has no solution, strict or not. Each written witness must have the
+/// first literal of its clause as its pivot.
 pub fn verified_is_unsat()
     ensures { VerifiedIsUnsat }
 {}
