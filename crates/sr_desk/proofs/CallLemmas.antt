@@ -18,7 +18,7 @@ OnlyReads-trans {n} {a} {b} {c} x y = record {
 }
 
 pub OnlyWrites-refl : (n : ℕ) (o : Outside) → OnlyWrites n o o
-OnlyWrites-refl n o = record { begun = refl; file = record { output = λ e. refl; named = λ own other e ne. refl }; elsewhere = λ k ne. refl; later = omega arith; slot = refl }
+OnlyWrites-refl n o = record { begun = refl; file = record { output = λ e. refl; named = λ own other e ne. refl }; elsewhere = λ k ne. refl; later = omega arith; slot = refl; ended = λ e. e }
 
 pub OnlyWrites-trans : {n : ℕ} {a b c : Outside} → OnlyWrites n a b → OnlyWrites n b c → OnlyWrites n a c
 OnlyWrites-trans {n} {a} {b} {c} x y = record {
@@ -30,6 +30,7 @@ OnlyWrites-trans {n} {a} {b} {c} x y = record {
   elsewhere = λ k ne. y.elsewhere k ne ∙ x.elsewhere k ne;
   later = omega (arith, x.later, y.later);
   slot = y.slot ∙ ap (λ (s : SlotState). record s { written = (c.slot n).written; ended = (c.slot n).ended; faults = (c.slot n).faults }) x.slot;
+  ended = λ e. x.ended (y.ended e);
 }
 
 pub Grows-trans : (a b c : Option (List ℕ)) (xs ys : List ℕ) → Grows a b xs → Grows b c ys → Grows a c (xs ++ ys)

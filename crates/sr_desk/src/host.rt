@@ -87,11 +87,9 @@ impl<R: Runtime> Desk for HostDesk<R> {
     }
 
     fn write(&mut self, slot: Slot, piece: &[u8]) -> Result<usize, Failed> {
+        self.ended[slot.number as usize] = false;
         match write_to(&self.rt, &mut self.files, slot.number, piece) {
-            Some(count) => {
-                self.ended[slot.number as usize] = false;
-                Ok(count)
-            }
+            Some(count) => Ok(count),
             None => {
                 self.faults[slot.number as usize] =
                     self.faults[slot.number as usize].saturating_add(1);
