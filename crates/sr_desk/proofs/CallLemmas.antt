@@ -1,8 +1,8 @@
 -- One call after another.
 use Rattle.std.proofs.Math.Seq.{take-length}
-use Rattle.std.proofs.Common.{◌≡◌, ℕ, ◌-◌, length-drop, List, ◌++◌, take, drop, length, IsTrue, Option, Some, refl, ◌∙◌, ap, arith, append_assoc}
+use Rattle.std.proofs.Common.{◌≡◌, ℕ, ◌-◌, length-drop, List, ◌++◌, take, drop, length, IsTrue, Option, Some, refl, ◌∙◌, ap, arith, append_assoc, ◌≤◌}
 use Rattle.std.proofs.lemmas.List.{take-append-drop}
-use Rattle.sr_desk.specs.Outside.{Outside, SlotState, OnlyReads, OnlyWrites, can_write}
+use Rattle.sr_desk.specs.Outside.{Outside, SlotState, Rose, OnlyReads, OnlyWrites, can_write}
 use Rattle.sr_desk.specs.Calls.{Grows}
 
 pub OnlyReads-refl : (n : ℕ) (o : Outside) → OnlyReads n o o
@@ -44,3 +44,14 @@ sent_more all sent rest k e =
 
 pub can_write-kept : {n : ℕ} {a b : Outside} → OnlyWrites n a b → IsTrue (can_write a n) → IsTrue (can_write b n)
 can_write-kept {n} {a} {b} x h = rw (ap (λ (s : SlotState). s.writes) x.slot) h
+
+-- a slot that was begun for reading stays so
+pub reads-kept : {n m : ℕ} {a b : Outside} → OnlyReads n a b → m ≡ n → IsTrue (a.slot n).reads → IsTrue (b.slot m).reads
+reads-kept {n} {m} {a} {b} x e h = rw (e, ap (λ (s : SlotState). s.reads) x.slot) h
+
+-- a rise of a count is one of all that came before and comes after
+pub Rose-after : (a b c : ℕ) → a ≤ b → Rose b c → Rose a c
+Rose-after a b c le r = omega arith
+
+pub Rose-before : (a b c : ℕ) → Rose a b → b ≤ c → Rose a c
+Rose-before a b c r le = omega arith

@@ -4,8 +4,8 @@ use Rattle.std.proofs.Math.Path.{fun_ext}
 use Rattle.std.proofs.lemmas.Bool.Decides.{nat_tests}
 use Rattle.sr_desk.specs.declared.held.Usage.{Usage}
 use Rattle.sr_desk.specs.declared.held.Usage.TheVariants.{Unused, Reading, Writing, Output}
-use Rattle.sr_desk.specs.MemoryParts.{usage_at, latest, fits, is_version, writes_file_by, AllFit, AllUnused}
-use Rattle.sr_desk.proofs.MemoryLemmas.{usage-set, usage-set_same, usage-set_other, last_below-is, latest-push, latest-push_other}
+use Rattle.sr_desk.specs.MemoryParts.{usage_at, latest, fits, is_version, state_by, writes_file_by, AllFit, AllUnused}
+use Rattle.sr_desk.proofs.MemoryLemmas.{usage-set, usage-set_same, usage-set_other, last_below-is, latest-push, latest-push_other, name-push, left-push, written-push}
 
 same_place : (a b : ℕ) → (a ≡ b) ⊎ (a ≢ b)
 same_place a b = grind arith
@@ -67,3 +67,8 @@ owner-begun_other N T name other U b k len lt nine all ne = go (same_place k b)
         let was : usage_at U b ≡ Unused = all b (omega arith) lt in
         rw (e, now, was, latest-push_other N name other ne) (no_version N other (length T) (omega arith))
     go (inr far) = rw (usage-set_other U b k (Writing (length T)) far) (owner-push_other N name other (usage_at U k) ne)
+
+-- a file that is begun or put now leaves the slots as they were
+pub state-push : (N T : List (List ℕ)) (O name bytes : List ℕ) (u : Usage) (ended : Bool) (faults : ℕ) → length N ≡ length T → IsTrue (fits T u)
+    → state_by (N ++ name ∷ []) (T ++ bytes ∷ []) O u ended faults ≡ state_by N T O u ended faults
+state-push N T O name bytes u ended faults len fit = rw (name-push N T name u len fit, left-push T bytes u fit, written-push T O bytes u fit) refl

@@ -2,8 +2,8 @@ use Rattle.std.proofs.Common.{◌≡◌, refl, ◌++◌, ◌∷◌, [], List, �
 use Rattle.sr_desk.specs.declared.held.Usage.{Usage}
 use Rattle.sr_desk.specs.MemoryParts.{names_of, texts_of, usage_at}
 use Rattle.sr_desk.proofs.VersionLemmas.{same_length}
-use Rattle.sr_desk.proofs.MemoryLemmas.{name-push, left-push, written-push, file-push, file-push_other}
-use Rattle.sr_desk.proofs.OwnerLemmas.{owner-push, owner-push_other}
+use Rattle.sr_desk.proofs.MemoryLemmas.{file-push, file-push_other}
+use Rattle.sr_desk.proofs.OwnerLemmas.{owner-push, owner-push_other, state-push}
 use Rattle.sr_desk.proofs.memory.MemoryDesk.put_file.Goals as goal
 
 pub returns-in-Ok-clause-ok : goal.returns-in-Ok-clause-ok
@@ -17,11 +17,7 @@ returns-in-Ok-clause-ok c =
     let len : length N ≡ length T = same_length c.args.self.now.versions.items in
     rw (names, c.in-Ok.ensures.texts) record {
       begun = refl;
-      slots = λ n. rw (
-        name-push N T name (usage_at U n) len (c.args.self.now.fit n),
-        left-push T bytes (usage_at U n) (c.args.self.now.fit n),
-        written-push T c.args.self.now.out.items bytes (usage_at U n) (c.args.self.now.fit n),
-      ) refl;
+      slots = λ n. state-push N T c.args.self.now.out.items name bytes (usage_at U n) _ _ len (c.args.self.now.fit n);
       file = file-push N T name bytes len;
       own = λ n. owner-push N T name (usage_at U n) len (c.args.self.now.fit n);
       others = λ other ne. file-push_other N T name bytes other len ne;
