@@ -9,8 +9,8 @@ use Rattle.sr_desk.specs.declared.held.Usage.{Usage}
 use Rattle.sr_desk.specs.declared.held.Usage.TheVariants.{Unused, Reading, Writing, Output}
 use Rattle.sr_desk.specs.Outside.{OnlyReads, OnlyWrites}
 use Rattle.sr_desk.specs.Calls.{BeginsRead, BeginsWrite, Finishes, Moves, Grows}
-use Rattle.sr_desk.specs.Memory.{text_at, usage_at, latest, memory_outside, name_by, left_by, written_by, fits, AllFit, AllApart, AllUnused, Raises, PutsFile, more_texts, more_out}
-use Rattle.sr_desk.proofs.MemoryLemmas.{usage-set_same, usage-set_other, left-push, written-push, name-push, left-more, written-more, written-out, file-push, file-push_other, file-more_other}
+use Rattle.sr_desk.specs.MemoryParts.{text_at, usage_at, latest, memory_outside, name_by, left_by, written_by, fits, AllFit, AllApart, AllUnused, Raises, more_texts, more_out}
+use Rattle.sr_desk.proofs.MemoryLemmas.{usage-set_same, usage-set_other, left-push, written-push, name-push, left-more, written-more, written-out, file-push_other, file-more_other}
 
 pub begins_read-err : (N T : List (List ℕ)) (O : List ℕ) (b : ℕ) (U : List Usage) (E : List Bool) (F G : List ℕ) (name : List ℕ) (e : Failed) → Raises b F G
     → BeginsRead {E = Failed} (memory_outside N T O b U E F) (memory_outside N T O (b + 1) U E G) name (Err e)
@@ -27,20 +27,35 @@ pub reads-err : (N T : List (List ℕ)) (O : List ℕ) (b : ℕ) (U : List Usage
 reads-err N T O b U E F G n r =
     record { begun = refl; file = refl; elsewhere = λ k ne. rw (r.elsewhere k ne) refl; later = r.later; slot = refl }
 
+pub cleared : (E : List Bool) (n : ℕ) → get_or (set E n false) n false ≡ false
+cleared [] zero = refl
+cleared [] (suc n) = refl
+cleared (x ∷ E) zero = refl
+cleared (x ∷ E) (suc n) = cleared E n
+
+not_ended : (E : List Bool) (n : ℕ) (P : Type 0) → get_or (set E n false) n false ≡ true → P
+not_ended E n P e = let f = cleared E n in cc
+
 pub writes-err : (N T : List (List ℕ)) (O : List ℕ) (b : ℕ) (U : List Usage) (E : List Bool) (F G : List ℕ) (n : ℕ) → Raises n F G
-    → OnlyWrites n (memory_outside N T O b U E F) (memory_outside N T O b U E G)
-writes-err N T O b U E F G n r =
-    record { begun = refl; file = record { output = λ e. refl; named = λ own other e ne. refl }; elsewhere = λ k ne. rw (r.elsewhere k ne) refl; later = r.later; slot = refl }
+    → OnlyWrites n (memory_outside N T O b U E F) (memory_outside N T O b U (set E n false) G)
+writes-err N T O b U E F G n r = record {
+  begun = refl;
+  file = record { output = λ e. refl; named = λ own other e ne. refl };
+  elsewhere = λ k ne. rw (r.elsewhere k ne, get_or-set_other E n k false false ne) refl;
+  later = r.later;
+  slot = refl;
+  ended = λ e. not_ended E n _ e;
+}
 
 pub finishes-err : (N T : List (List ℕ)) (O : List ℕ) (b : ℕ) (U : List Usage) (E : List Bool) (F G : List ℕ) (n : ℕ) (e : Failed) → Raises n F G
     → Finishes {E = Failed} n (memory_outside N T O b U E F) (memory_outside N T O b U E G) (Err e)
 finishes-err N T O b U E F G n e r =
-    record { begun = refl; file = refl; elsewhere = λ k ne. rw (r.elsewhere k ne) refl; later = r.later; slot = refl; ended = tt }
+    record { begun = refl; file = refl; elsewhere = λ k ne. rw (r.elsewhere k ne) refl; later = r.later; slot = refl; ended = tt; failed = refl }
 
 pub finishes-ok : (N T : List (List ℕ)) (O : List ℕ) (b : ℕ) (U : List Usage) (E : List Bool) (F : List ℕ) (n : ℕ) → n < length E
     → Finishes {E = Failed} n (memory_outside N T O b U E F) (memory_outside N T O b U (set E n true) F) (Ok tt)
 finishes-ok N T O b U E F n lt =
-    record { begun = refl; file = refl; elsewhere = λ k ne. rw (get_or-set_other E n k true false ne) refl; later = omega arith; slot = refl; ended = get_or-set_same E n true false lt }
+    record { begun = refl; file = refl; elsewhere = λ k ne. rw (get_or-set_other E n k true false ne) refl; later = omega arith; slot = refl; ended = get_or-set_same E n true false lt; failed = tt }
 
 whole : (bytes : List ℕ) → drop 0 (take (length bytes) bytes) ≡ bytes
 whole bytes = rw (take-length bytes) refl
@@ -106,6 +121,7 @@ writes-ok N T O b U E F n piece Unused is out fit far = record {
   elsewhere = λ k ne. rw (get_or-set_other E n k false false ne) refl;
   later = omega arith;
   slot = refl;
+  ended = λ e. not_ended E n _ e;
 }
 writes-ok N T O b U E F n piece (Reading v p q) is out fit far = record {
   begun = refl;
@@ -113,6 +129,7 @@ writes-ok N T O b U E F n piece (Reading v p q) is out fit far = record {
   elsewhere = λ k ne. rw (get_or-set_other E n k false false ne) refl;
   later = omega arith;
   slot = refl;
+  ended = λ e. not_ended E n _ e;
 }
 writes-ok N T O b U E F n piece (Writing v) is out fit far = record {
   begun = refl;
@@ -128,6 +145,7 @@ writes-ok N T O b U E F n piece (Writing v) is out fit far = record {
   ) refl;
   later = omega arith;
   slot = rw is refl;
+  ended = λ e. not_ended E n _ e;
 }
 writes-ok N T O b U E F n piece Output is out fit far = record {
   begun = refl;
@@ -138,6 +156,7 @@ writes-ok N T O b U E F n piece Output is out fit far = record {
   ) refl;
   later = omega arith;
   slot = refl;
+  ended = λ e. not_ended E n _ e;
 }
 
 pub grows-ok : (T : List (List ℕ)) (O : List ℕ) (u : Usage) (piece : List ℕ) → IsTrue (fits T u)
@@ -200,12 +219,3 @@ moves-ok T U n v p q c piece buf was lt le none is len same = record {
   where
     front : (piece : List ℕ) (c : ℕ) → length piece ≡ c → take c (piece ++ drop c buf) ≡ piece
     front piece c len = rw (← len) (take-append_seam piece (drop (length piece) buf))
-
-pub puts_file-ok : (N T : List (List ℕ)) (O : List ℕ) (b : ℕ) (U : List Usage) (E : List Bool) (F : List ℕ) (name bytes : List ℕ) → length N ≡ length T → AllFit T U
-    → PutsFile (memory_outside N T O b U E F) (memory_outside (N ++ name ∷ []) (T ++ bytes ∷ []) O b U E F) name bytes
-puts_file-ok N T O b U E F name bytes same fit = record {
-  begun = refl;
-  slots = λ k. rw (name-push N T name (usage_at U k) same (fit k), left-push T bytes (usage_at U k) (fit k), written-push T O bytes (usage_at U k) (fit k)) refl;
-  file = file-push N T name bytes same;
-  others = λ o ne. file-push_other N T name bytes o same ne;
-}

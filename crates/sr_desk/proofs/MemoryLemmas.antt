@@ -7,7 +7,7 @@ use Rattle.std.proofs.lemmas.Bool.Decides.{nat_tests}
 use Rattle.std.proofs.lemmas.Slice.Eq.{bytes_eq-Decides}
 use Rattle.sr_desk.specs.declared.held.Usage.{Usage}
 use Rattle.sr_desk.specs.declared.held.Usage.TheVariants.{Unused, Reading, Writing, Output}
-use Rattle.sr_desk.specs.Memory.{text_at, usage_at, last_below, latest, file_in, name_by, left_by, written_by, reads_by, fits, apart, AllFit, AllApart, AllUnused, more_texts}
+use Rattle.sr_desk.specs.MemoryParts.{text_at, usage_at, last_below, latest, file_in, name_by, left_by, written_by, reads_by, fits, apart, AllFit, AllApart, AllUnused, more_texts}
 
 -- the slot that was changed, and the others
 pub usage-set : (uses : List Usage) (i : ℕ) (u : Usage) (n : ℕ) → (usage_at (set uses i u) n ≡ u) ⊎ (usage_at (set uses i u) n ≡ usage_at uses n)

@@ -1,24 +1,13 @@
 -- Facts on a reader's buffer, and on what it has still to give.
-use Rattle.std.proofs.Common.{◌≡◌, ◌≢◌, ℕ, ◌<◌, ◌≤◌, Bool, true, false, List, [], ◌∷◌, ◌++◌, length, take, drop, cond, Option, Some, None, Ok, Err, refl, sym, ◌∙◌, ap, arith, length-drop, length-take}
+use Rattle.std.proofs.Common.{◌≡◌, ◌≢◌, ℕ, ◌+◌, ◌<◌, ◌≤◌, Bool, true, false, List, [], ◌∷◌, ◌++◌, length, take, drop, get_or, cond, Option, Some, None, Ok, Err, refl, sym, ◌∙◌, ap, subst, arith, length-drop, length-take}
 use Rattle.std.specs.Prelude.{Result, option_map}
 use Rattle.sr_desk.specs.Outside.{Outside}
-use Rattle.sr_desk.specs.Reader.{Reader}
+use Rattle.sr_desk.specs.Reader.{Reader, last_after, reader_of, skipped, buffered, IsReader}
+use Rattle.sr_desk.specs.declared.reader.ByteReader.TheInside.{Inside}
+use Rattle.sr_desk.proofs.BufferLemmas.{drop-drop, last_after-more, last_after-skip, ahead-cons, ahead-ends}
 use Rattle.sr_desk.specs.Next.{remaining, Keeps, Next, Gives}
 use Rattle.sr_desk.specs.declared.reader.ReadStop.{ReadStop}
 use Rattle.sr_desk.specs.declared.reader.ReadStop.TheVariants.{Fault, Limit}
-
-pub ahead_none : (at : ℕ) (end : ℕ) (items : List ℕ) → at ≡ end → drop at (take end items) ≡ []
-ahead_none at end items e = empty (drop at (take end items)) (simp (length-drop, length-take) (omega arith))
-  where
-    empty : (xs : List ℕ) → length xs ≡ 0 → xs ≡ []
-    empty [] h = refl
-    empty (x ∷ xs) h = absurd (omega arith)
-
-pub ahead_some : (at : ℕ) (end : ℕ) (items : List ℕ) → at < end → end ≤ length items → drop at (take end items) ≡ [] → ⊥
-ahead_some at end items lt le e =
-    let n : length (drop at (take end items)) ≡ 0 = rw e refl in
-    let m = simp (length-drop, length-take) at n in
-    omega arith
 
 -- what is left, by whether the end was met
 left_by : Bool → List ℕ → Option (List ℕ) → Option (List ℕ)
@@ -88,3 +77,42 @@ gives_next old mid new before after (Err Limit) same ready keeps gives =
       bytes = λ bytes h. something_left mid.ended mid.ahead (after.slot mid.slot).left bytes gives.0 (sym (left_by_is mid after) ∙ keeps bytes h);
     }
 gives_next old mid new before after (Err Fault) same ready keeps gives = tt
+
+-- where the buffer gives a byte, nothing is read
+pub gives_next_byte : (old new : Reader) (o : Outside) (b : ℕ) → Gives old new (Ok (Some b)) → Next old new o o (Ok (Some b))
+gives_next_byte old new o b gives = gives_next old old new o o (Ok (Some b)) refl (λ e n. let first = gives.1 in cc) (λ x h. h) gives
+
+-- a byte of the buffer is taken
+pub gives_byte : (r : Inside) (old : Reader) (b : ℕ) → reader_of r ≡ old → IsReader r → r.at < r.end → b ≡ get_or r.buffer.items r.at b
+    → Gives old (reader_of (record r { at = r.at + 1 })) (Ok (Some b))
+gives_byte r old b view is lt byte = subst (λ (o : Reader). Gives o (reader_of (record r { at = r.at + 1 })) (Ok (Some b))) view (gives is.limit is.end is.held)
+  where
+    gives : r.before + r.end ≤ r.limit → r.end ≤ r.held → r.held ≤ length r.buffer.items → Gives (reader_of r) (reader_of (record r { at = r.at + 1 })) (Ok (Some b))
+    gives limit end held =
+        let last : last_after r.previous (take (r.at + 1) r.buffer.items) ≡ Some b = last_after-more r.previous r.buffer.items r.at b (omega arith) ∙ ap (λ (x : ℕ). Some x) (sym byte) in
+        let first : drop r.at (take r.held r.buffer.items) ≡ b ∷ drop (r.at + 1) (take r.held r.buffer.items) =
+        ahead-cons r.buffer.items r.at r.held b (omega arith) held ∙ ap (λ (x : ℕ). x ∷ drop (r.at + 1) (take r.held r.buffer.items)) (sym byte) in
+        let sum : r.before + (r.at + 1) ≡ r.before + r.at + 1 = omega arith in
+        (omega arith, first, rw (last, sum) refl)
+
+-- the limit's bytes were taken, and there is another
+pub gives_limit : (r : Inside) (old : Reader) → reader_of r ≡ old → IsReader r → r.end ≤ r.at → r.end < r.held → Gives old old (Err Limit)
+gives_limit r old view is le lt = subst (λ (o : Reader). Gives o o (Err Limit)) view (gives_past r is le lt)
+  where
+    gives_past : (r : Inside) → IsReader r → r.end ≤ r.at → r.end < r.held → Gives (reader_of r) (reader_of r) (Err Limit)
+    gives_past r is le lt =
+        let at : r.at ≤ r.end = is.at in
+        let past : r.before + r.end ≡ r.limit = is.past lt in (
+          λ e. let h : r.held ≤ r.at = ahead-ends r.buffer.items r.at r.held is.held e in absurd (omega arith),
+          omega arith,
+          refl,
+        )
+
+-- some bytes of the buffer are taken
+pub skips : (r : Inside) (n : ℕ) → IsReader r → n ≤ length (buffered (reader_of r)) → reader_of (record r { at = r.at + n }) ≡ skipped (reader_of r) n
+skips r n is le =
+    let at : r.at ≤ r.end = is.at in
+    let end : r.end ≤ r.held = is.end in
+    let h = simp (length-drop, length-take) at le in
+    let sum : r.before + (r.at + n) ≡ r.before + r.at + n = omega arith in
+    rw (last_after-skip r.previous r.buffer.items r.at n r.held (omega arith), sum, ← drop-drop r.at n (take r.held r.buffer.items)) refl

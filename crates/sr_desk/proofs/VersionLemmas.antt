@@ -5,7 +5,7 @@ use Rattle.std.proofs.Math.Seq.{map-set_same}
 use Rattle.std.proofs.lemmas.Bool.Decides.{nat_tests}
 use Rattle.sr_desk.specs.declared.held.Version.{Version}
 use Rattle.sr_desk.specs.declared.held.Usage.TheVariants.{Reading, Writing}
-use Rattle.sr_desk.specs.Memory.{names_of, texts_of, text_at, latest, fits}
+use Rattle.sr_desk.specs.MemoryParts.{names_of, texts_of, text_at, latest, fits}
 use Rattle.sr_desk.proofs.MemoryLemmas.{last_below-is}
 
 pub length-names : (vs : List Version) → length (names_of vs) ≡ length vs

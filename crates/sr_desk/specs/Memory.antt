@@ -1,127 +1,86 @@
--- What contracts see of a desk in memory, from its parts.
-use Rattle.std.specs.Prelude.{ℕ, zero, suc, ◌≢◌, ◌==◌, ◌&&◌, nat_lt, nat_le, Bool, true, false, not, IsTrue, List, [], map, length, take, drop, Option, Some, None, option_map, if◌then◌else◌, slice_index_or, slice_set, ◌++◌, ◌≡◌, ◌≤◌, ◌<◌}
-use Rattle.std.specs.Str.{bytes_eq}
-use Rattle.sr_desk.specs.Outside.{Outside, SlotState, Rose}
-use Rattle.sr_desk.specs.declared.held.Version.{Version}
-use Rattle.sr_desk.specs.declared.held.Usage.{Usage}
-use Rattle.sr_desk.specs.declared.held.Usage.TheVariants.{Unused, Reading, Writing, Output}
+-- What contracts see of a desk in memory.
+use Rattle.std.specs.Prelude.{◌≡◌, ◌≢◌, ℕ, ◌≤◌, ◌<◌, ◌==◌, ◌&&◌, ◌||◌, min, Bool, true, false, List, [], length, Some, None, if◌then◌else◌}
+use Rattle.sr_desk.specs.Outside.{Outside}
+use Rattle.sr_desk.specs.Calls.{Grows}
+use Rattle.sr_desk.specs.Refusing.{same_kind, one_more}
+use Rattle.sr_desk.specs.declared.refusals.CallKind.{CallKind}
 
-abbrev pub names_of : List Version → List (List ℕ)
-names_of vs = map (λ (v : Version). v.name.items) vs
+pub record Memory : Type 0 where
+  pub outside : Outside
+  -- what is written to the slot is the file of the name: it was begun last with that name
+  pub writes_file : ℕ → List ℕ → Bool
+  -- the most bytes that a read or a write moves
+  pub most : ℕ
+  -- how often a kind of call was made
+  pub calls : CallKind → ℕ
+  -- the n-th call of a kind is to fail
+  pub refuses : CallKind → ℕ → Bool
 
-abbrev pub texts_of : List Version → List (List ℕ)
-texts_of vs = map (λ (v : Version). v.bytes.items) vs
+-- the next call of a kind is to fail
+abbrev pub is_due : Memory → CallKind → Bool
+is_due m kind = m.refuses kind (one_more (m.calls kind))
 
-abbrev pub text_at : List (List ℕ) → ℕ → List ℕ
-text_at texts v = slice_index_or texts v []
+-- a call of this kind was counted, and what is set stayed as it was
+pub record Counts (kind : CallKind) (old new : Memory) : Type 0 where
+  pub calls : (k : CallKind) → new.calls k ≡ (if same_kind k kind then one_more (old.calls k) else old.calls k)
+  pub most : new.most ≡ old.most
+  pub refuses : new.refuses ≡ old.refuses
 
--- the last of the first k names that is this one
-abbrev pub last_below : ℕ → List (List ℕ) → List ℕ → Option ℕ
-last_below zero names name = None
-last_below (suc k) names name = if bytes_eq (text_at names k) name then Some k else last_below k names name
+-- the file of the name is empty, the slot alone writes it, and the slots of other names write what they wrote
+pub record EmptiesFile (n : ℕ) (name : List ℕ) (old new : Memory) : Type 0 where
+  pub file : new.outside.file name ≡ Some []
+  pub named : (new.outside.slot n).name ≡ Some name
+  pub written : (new.outside.slot n).written ≡ Some []
+  pub own : (k : ℕ) → new.writes_file k name ≡ (k == n)
+  pub others : (k : ℕ) (other : List ℕ) → other ≢ name → new.writes_file k other ≡ old.writes_file k other
 
--- the version that is the file of a name now: the one begun last
-abbrev pub latest : List (List ℕ) → List ℕ → Option ℕ
-latest names name = last_below (length names) names name
+-- the file that the slot writes grows by what was sent, and the other files are as they were
+pub record GrowsFile (n : ℕ) (old new : Memory) (sent : List ℕ) : Type 0 where
+  pub own : (name : List ℕ) → old.writes_file n name ≡ true → Grows (old.outside.file name) (new.outside.file name) sent
+  pub others : (name : List ℕ) → old.writes_file n name ≡ false → new.outside.file name ≡ old.outside.file name
 
-abbrev pub file_in : List (List ℕ) → List (List ℕ) → List ℕ → Option (List ℕ)
-file_in names texts name = option_map (text_at texts) (latest names name)
-
--- a slot, by what it is used for
-abbrev pub name_by : List (List ℕ) → Usage → Option (List ℕ)
-name_by names (Writing version) = Some (text_at names version)
-name_by names _ = None
-
-abbrev pub left_by : List (List ℕ) → Usage → Option (List ℕ)
-left_by texts (Reading version place end) = Some (drop place (take end (text_at texts version)))
-left_by texts _ = None
-
-abbrev pub written_by : List (List ℕ) → List ℕ → Usage → Option (List ℕ)
-written_by texts out (Writing version) = Some (text_at texts version)
-written_by texts out Output = Some out
-written_by texts out _ = None
-
-abbrev pub reads_by : Usage → Bool
-reads_by (Reading version place end) = true
-reads_by _ = false
-
-abbrev pub writes_by : Usage → Bool
-writes_by (Writing version) = true
-writes_by Output = true
-writes_by _ = false
-
-abbrev pub state_by : List (List ℕ) → List (List ℕ) → List ℕ → Usage → Bool → ℕ → SlotState
-state_by names texts out usage ended faults = record {
-  name = name_by names usage;
-  left = left_by texts usage;
-  written = written_by texts out usage;
-  reads = reads_by usage;
-  writes = writes_by usage;
-  ended = ended;
-  faults = faults;
-}
-
-abbrev pub usage_at : List Usage → ℕ → Usage
-usage_at uses n = slice_index_or uses n Unused
-
-abbrev pub memory_outside : List (List ℕ) → List (List ℕ) → List ℕ → ℕ → List Usage → List Bool → List ℕ → Outside
-memory_outside names texts out begun uses ended faults = record {
-  begun = begun;
-  slot = λ n. state_by names texts out (usage_at uses n) (slice_index_or ended n false) (slice_index_or faults n 0);
-  file = file_in names texts;
-}
-
--- what a slot is used for lies within the texts
-abbrev pub fits : List (List ℕ) → Usage → Bool
-fits texts (Reading version place end) = nat_lt version (length texts) && (nat_le place end && nat_le end (length (text_at texts version)))
-fits texts (Writing version) = nat_lt version (length texts)
-fits texts _ = true
-
--- two slots don't write to one text
-abbrev pub apart : Usage → Usage → Bool
-apart (Writing v) (Writing w) = not (v == w)
-apart Output Output = false
-apart _ _ = true
-
-abbrev pub AllFit : List (List ℕ) → List Usage → Type 0
-AllFit texts uses = (n : ℕ) → IsTrue (fits texts (usage_at uses n))
-
-abbrev pub AllApart : List Usage → Type 0
-AllApart uses = (i j : ℕ) → i ≢ j → IsTrue (apart (usage_at uses i) (usage_at uses j))
-
--- the count of one slot rose, and the others are as they were
-pub record Raises (n : ℕ) (old new : List ℕ) : Type 0 where
-  pub later : slice_index_or old n 0 ≤ slice_index_or new n 0
-  pub rose : Rose (slice_index_or old n 0) (slice_index_or new n 0)
-  pub elsewhere : (k : ℕ) → k ≢ n → slice_index_or new k 0 ≡ slice_index_or old k 0
-
--- slots that were not begun are not used
-abbrev pub AllUnused : ℕ → List Usage → Type 0
-AllUnused begun uses = (k : ℕ) → begun ≤ k → k < 8 → usage_at uses k ≡ Unused
-
--- a piece appended to what a slot writes
-abbrev pub more_texts : List (List ℕ) → Usage → List ℕ → List (List ℕ)
-more_texts texts (Writing version) piece = slice_set texts version (text_at texts version ++ piece)
-more_texts texts _ piece = texts
-
-abbrev pub more_out : List ℕ → Usage → List ℕ → List ℕ
-more_out out Output piece = out ++ piece
-more_out out _ piece = out
-
--- no slot is begun, and nothing is written
-pub record IsFresh (o : Outside) : Type 0 where
-  pub begun : o.begun ≡ 0
-  pub output : (o.slot 8).written ≡ Some []
-  pub slots : (n : ℕ) → n < 8 → ((o.slot n).reads ≡ false) × (((o.slot n).writes ≡ false) × ((o.slot n).ended ≡ false))
+-- what was told to be left is moved as far as the buffer and the most allow
+abbrev pub MovesMost : Memory → ℕ → ℕ → ℕ → Type 0
+MovesMost m n room moved = (left : List ℕ) → (m.outside.slot n).left ≡ Some left → moved ≡ min (min (length left) room) m.most
 
 pub record SameOutside (old new : Outside) : Type 0 where
   pub begun : new.begun ≡ old.begun
   pub slots : (n : ℕ) → new.slot n ≡ old.slot n
   pub files : new.file ≡ old.file
 
--- one file has these bytes, and all else is as it was
-pub record PutsFile (old new : Outside) (name bytes : List ℕ) : Type 0 where
-  pub begun : new.begun ≡ old.begun
-  pub slots : (n : ℕ) → new.slot n ≡ old.slot n
-  pub file : new.file name ≡ Some bytes
-  pub others : (other : List ℕ) → other ≢ name → new.file other ≡ old.file other
+-- the file of the name has these bytes and no slot writes it, and all else is as it was
+pub record PutsFile (old new : Memory) (name bytes : List ℕ) : Type 0 where
+  pub begun : new.outside.begun ≡ old.outside.begun
+  pub slots : (n : ℕ) → new.outside.slot n ≡ old.outside.slot n
+  pub file : new.outside.file name ≡ Some bytes
+  pub own : (n : ℕ) → new.writes_file n name ≡ false
+  pub others : (other : List ℕ) → other ≢ name → new.outside.file other ≡ old.outside.file other
+  pub others_own : (n : ℕ) (other : List ℕ) → other ≢ name → new.writes_file n other ≡ old.writes_file n other
+
+-- one call more is to fail
+abbrev pub Refuses : CallKind → ℕ → Memory → Memory → Type 0
+Refuses kind nth old new = (k : CallKind) (n : ℕ) → new.refuses k n ≡ (old.refuses k n || (same_kind kind k && nth == n))
+
+-- no slot was begun or finished, and nothing is printed
+pub record IsFresh (o : Outside) : Type 0 where
+  pub begun : o.begun ≡ 0
+  pub printed : (o.slot 8).written ≡ Some []
+  pub names : (n : ℕ) → n ≤ 8 → (o.slot n).name ≡ None
+  pub left : (n : ℕ) → n ≤ 8 → (o.slot n).left ≡ None
+  pub written : (n : ℕ) → n < 8 → (o.slot n).written ≡ None
+  pub reads : (n : ℕ) → n ≤ 8 → (o.slot n).reads ≡ false
+  pub writes : (n : ℕ) → n ≤ 8 → (o.slot n).writes ≡ false
+  pub ended : (n : ℕ) → n ≤ 8 → (o.slot n).ended ≡ false
+
+-- besides, no call was counted, and none is to fail
+pub record IsRestarted (m : Memory) : Type 0 where
+  pub fresh : IsFresh m.outside
+  pub writes_file : (n : ℕ) (name : List ℕ) → n ≤ 8 → m.writes_file n name ≡ false
+  pub calls : (kind : CallKind) → m.calls kind ≡ 0
+  pub refuses : (kind : CallKind) (n : ℕ) → m.refuses kind n ≡ false
+
+-- besides, there are no files and no faults
+pub record IsNew (m : Memory) : Type 0 where
+  pub restarted : IsRestarted m
+  pub files : (name : List ℕ) → m.outside.file name ≡ None
+  pub faults : (n : ℕ) → n ≤ 8 → (m.outside.slot n).faults ≡ 0

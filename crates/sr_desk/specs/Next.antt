@@ -25,15 +25,18 @@ pub record Fills (old new : Reader) (before after : Outside) : Type 0 where
   pub ready : new.ended ≡ false → new.ahead ≢ []
   pub keeps : Keeps (remaining old before) (remaining new after)
 
+-- a byte is taken, the first of those that are left
 pub record TakesByte (old new : Reader) (before after : Outside) (b : ℕ) : Type 0 where
   pub room : old.taken < old.limit
   pub same : new ≡ record old { taken = old.taken + 1; last = Some b; ended = new.ended; ahead = new.ahead }
   pub bytes : (bytes : List ℕ) → remaining old before ≡ Some bytes → (rest : List ℕ) × (bytes ≡ b ∷ rest) × (remaining new after ≡ Some rest)
 
+-- nothing is left
 pub record MeetsEnd (old new : Reader) (before after : Outside) : Type 0 where
   pub same : new ≡ record old { ended = true; ahead = [] }
   pub bytes : (bytes : List ℕ) → remaining old before ≡ Some bytes → bytes ≡ []
 
+-- the limit's bytes were taken, and another is left
 pub record MeetsLimit (old : Reader) (before : Outside) : Type 0 where
   pub taken : old.taken ≡ old.limit
   pub bytes : (bytes : List ℕ) → remaining old before ≡ Some bytes → bytes ≢ []

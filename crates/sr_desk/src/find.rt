@@ -1,6 +1,6 @@
 // Looking a name up.
 ghost use Rattle.std.specs.Prelude.{◌≡◌, ◌<◌, IfSome, length};
-ghost use Rattle.sr_desk.specs.Memory.{names_of, latest};
+ghost use Rattle.sr_desk.specs.MemoryParts.{names_of, latest};
 
 use crate::held::Version;
 

@@ -1,6 +1,6 @@
 // Real files and standard output.
 ghost use Rattle.std.specs.Prelude.{◌≡◌, ◌<◌, ◌≤◌, length, IfSome, IsTrue};
-ghost use Rattle.sr_desk.specs.Host.{host_outside};
+ghost use Rattle.sr_desk.specs.Host.{host_outside, IsUnused, TellsNothing};
 
 use crate::{Desk, Failed, Slot};
 use std::alloc::Allocator;
@@ -28,7 +28,8 @@ pub struct HostDesk<R: Runtime> {
 
 impl<R: Runtime> HostDesk<R> {
     pub fn new(rt: R) -> HostDesk<R>
-        ensures { (⟦<HostDesk<R> as Desk>⟧.outside result).begun ≡ 0 }
+        ensures unused { IsUnused (⟦<HostDesk<R> as Desk>⟧.outside result) }
+        ensures untold { TellsNothing (⟦<HostDesk<R> as Desk>⟧.outside result) }
     {
         let alloc = rt.alloc();
         HostDesk {
@@ -87,11 +88,9 @@ impl<R: Runtime> Desk for HostDesk<R> {
     }
 
     fn write(&mut self, slot: Slot, piece: &[u8]) -> Result<usize, Failed> {
+        self.ended[slot.number as usize] = false;
         match write_to(&self.rt, &mut self.files, slot.number, piece) {
-            Some(count) => {
-                self.ended[slot.number as usize] = false;
-                Ok(count)
-            }
+            Some(count) => Ok(count),
             None => {
                 self.faults[slot.number as usize] =
                     self.faults[slot.number as usize].saturating_add(1);

@@ -1,9 +1,11 @@
 // Which calls of a desk in memory are to fail.
-ghost use Rattle.std.specs.Prelude.{◌≡◌, ◌++◌, ◌∷◌, [], OnOk, OnErr, slice_index_or, min, ◌^◌, ◌-◌};
-ghost use Rattle.sr_desk.specs.Refusing.{kind_number, is_due, counted};
+ghost use Rattle.std.specs.Prelude.{◌≡◌, ◌++◌, ◌∷◌, [], OnOk, OnErr, min, ◌^◌, ◌-◌};
+ghost use Rattle.sr_desk.specs.Refusing.{kind_number, calls_in, calls_after, refuses_in};
 
+use sr_base::NoMemory;
 use std::alloc::Global;
 
+/// A call of the outside.
 #[derive(Clone, Copy, Debug, PartialEq, Eq)]
 pub enum CallKind {
     BeginRead,
@@ -13,14 +15,12 @@ pub enum CallKind {
     Finish,
 }
 
+/// The n-th call of a kind, counted from 1.
 #[derive(Clone, Copy, Debug, PartialEq, Eq)]
-pub struct Refusal {
+pub(crate) struct Refusal {
     pub kind: CallKind,
     pub nth: u32,
 }
-
-#[derive(Clone, Copy, Debug, PartialEq, Eq)]
-pub struct NoMemory;
 
 fn number(kind: CallKind) -> u8
     ensures { result ≡ kind_number kind }
@@ -36,13 +36,13 @@ fn number(kind: CallKind) -> u8
 
 /// The calls so far, by kind, and those that are to fail.
 #[derive(Drop)]
-pub struct Refusals {
+pub(crate) struct Refusals {
     pub calls: [u64; 5],
     pub refused: Vec<Refusal>,
 }
 
 impl Refusals {
-    pub fn new(alloc: Global) -> Refusals
+    pub(crate) fn new(alloc: Global) -> Refusals
         ensures calls { result.calls ≡ 0 ∷ 0 ∷ 0 ∷ 0 ∷ 0 ∷ [] }
         ensures refused { result.refused.items ≡ [] }
     {
@@ -52,7 +52,7 @@ impl Refusals {
         }
     }
 
-    pub fn refuse(&mut self, kind: CallKind, nth: u32) -> Result<(), NoMemory>
+    pub(crate) fn refuse(&mut self, kind: CallKind, nth: u32) -> Result<(), NoMemory>
         ensures ok { OnOk result (self.new.refused.items ≡ self.old.refused.items ++ record { kind = kind; nth = nth } ∷ []) }
         ensures err { OnErr result (self.new.refused.items ≡ self.old.refused.items) }
         ensures calls { self.new.calls ≡ self.old.calls }
@@ -64,16 +64,17 @@ impl Refusals {
     }
 
     /// The calls of this kind so far.
-    pub fn calls(&self, kind: CallKind) -> u32
-        ensures { result ≡ min (slice_index_or self.now.calls (kind_number kind) 0) (2 ^ 32 - 1) }
+    pub(crate) fn calls(&self, kind: CallKind) -> u32
+        ensures { result ≡ min (calls_in self.now.calls kind) (2 ^ 32 - 1) }
     {
         self.calls[number(kind) as usize].min(u64::from(u32::MAX)) as u32
     }
 
     /// Counts a call, and says whether it is to fail.
-    pub fn due(&mut self, kind: CallKind) -> bool
-        ensures due { result ≡ is_due self.old kind }
-        ensures counts { self.new ≡ counted self.old kind }
+    pub(crate) fn due(&mut self, kind: CallKind) -> bool
+        ensures due { result ≡ refuses_in self.old.refused.items kind (calls_in (calls_after self.old.calls kind) kind) }
+        ensures calls { self.new.calls ≡ calls_after self.old.calls kind }
+        ensures refused { self.new.refused.items ≡ self.old.refused.items }
     {
         let at = number(kind) as usize;
         self.calls[at] = self.calls[at].saturating_add(1);
@@ -81,7 +82,7 @@ impl Refusals {
         self.refused.iter().any(|r| number(r.kind) == number(kind) && u64::from(r.nth) == count)
     }
 
-    pub fn clear(&mut self)
+    pub(crate) fn clear(&mut self)
         ensures calls { self.new.calls ≡ 0 ∷ 0 ∷ 0 ∷ 0 ∷ 0 ∷ [] }
         ensures refused { self.new.refused.items ≡ [] }
     {

@@ -1,9 +1,10 @@
 // Single changes of what a desk in memory holds.
 ghost use Rattle.std.specs.Prelude.{◌≡◌, ◌++◌, ◌∷◌, [], IsTrue, ◌<◌, ◌≤◌, ◌+◌, length, take, drop, IfOk, OnOk, OnErr, Ok, Err, is_ok, if◌then◌else◌};
-ghost use Rattle.sr_desk.specs.Memory.{Raises, names_of, texts_of, text_at, fits, more_texts, more_out};
+ghost use Rattle.sr_desk.specs.MemoryParts.{Raises, names_of, texts_of, text_at, fits, more_texts, more_out};
 
 use crate::held::{Usage, Version};
-use crate::{Failed, NoMemory, Slot};
+use crate::{Failed, Slot};
+use sr_base::NoMemory;
 use std::alloc::Global;
 
 /// Counts a fault of a slot.

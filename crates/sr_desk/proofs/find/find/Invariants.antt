@@ -1,5 +1,5 @@
 use Rattle.std.proofs.Common.{◌≡◌, ◌≤◌, length}
-use Rattle.sr_desk.specs.Memory.{names_of, latest, last_below}
+use Rattle.sr_desk.specs.MemoryParts.{names_of, latest, last_below}
 use Rattle.sr_desk.proofs.find.find.Given as goal
 
 -- the last among those that are left is the last of all

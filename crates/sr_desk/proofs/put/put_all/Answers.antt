@@ -13,6 +13,7 @@ loop-rest-preserved g c =
         sent_more _ _ _ c.in-Ok.count had.1,
         Grows-trans _ _ _ _ _ had.2 c.in-Ok.ensures.bytes.bytes,
       );
+      ended = λ h. c.write.ensures.ended;
     }
 
 pub returns-in-Err-clause-only : goal.returns-in-Err-clause-only

@@ -1,5 +1,5 @@
 use Rattle.std.proofs.Common.{rules, ◌≡◌, ◌<◌, length, Some, sym, arith, refl, IsTrue}
-use Rattle.sr_desk.specs.Memory.{names_of, texts_of, text_at, latest, fits}
+use Rattle.sr_desk.specs.MemoryParts.{names_of, texts_of, text_at, latest, fits}
 use Rattle.sr_desk.specs.declared.held.Usage.TheVariants.{Reading}
 use Rattle.sr_desk.proofs.MemoryLemmas.{AllFit-set, AllApart-set, AllUnused-set, output-set}
 use Rattle.sr_desk.proofs.VersionLemmas.{length-texts, reading-fits}

@@ -1,7 +1,8 @@
 use Rattle.std.proofs.Common.{rules, ◌≡◌, ◌<◌, ◌≤◌, ◌+◌, ◌-◌, ℕ, min, length, ◌∙◌, arith, ap, refl, IsTrue, ◌++◌, take, drop, length-take, length-drop, length-append}
-use Rattle.sr_desk.specs.Memory.{texts_of, text_at, usage_at, fits}
+use Rattle.sr_desk.specs.MemoryParts.{names_of, texts_of, text_at, usage_at, fits}
 use Rattle.sr_desk.specs.declared.held.Usage.TheVariants.{Reading}
-use Rattle.sr_desk.proofs.MemoryLemmas.{AllFit-set, AllApart-set, AllUnused-used, output-set, not_output, not_reading}
+use Rattle.sr_desk.proofs.MemoryLemmas.{AllFit-set, AllApart-set, AllUnused-used, output-set, not_output}
+use Rattle.sr_desk.proofs.OwnerLemmas.{owners-set}
 use Rattle.sr_desk.proofs.VersionLemmas.{reading-fits, fits-reading, IsReading}
 use Rattle.sr_desk.proofs.DeskLemmas.{moves-ok}
 use Rattle.sr_desk.proofs.memory.MemoryDeskDesk.read.Goals as goal
@@ -26,8 +27,8 @@ invariant_of-self-in-Reading c =
       some = c.args.self.now.some;
     }
 
-pub returns-in-Reading-clause-bytes : goal.returns-in-Reading-clause-bytes
-returns-in-Reading-clause-bytes c =
+pub returns-clause-bytes : goal.returns-clause-bytes
+returns-clause-bytes c =
     let was : usage_at c.args.self.now.uses c.args.slot.number ≡ Reading c.in-Reading.version c.in-Reading.place c.in-Reading.end = c.in-Reading.is in
     let nine : length c.args.self.now.uses ≡ 9 = search rules in
     let small : c.args.slot.number ≤ 8 = c.args.slot.small in
@@ -43,5 +44,7 @@ returns-in-Reading-clause-bytes c =
     (simp (length-take, length-drop) (omega (arith, count, old.place, old.end)))
     (simp (length-append, length-take, length-drop) (omega (arith, count, old.place, old.end))))
 
-pub returns-in_default : goal.returns-in_default
-returns-in_default c = absurd (not_reading (usage_at c.args.self.now.uses c.args.slot.number) c.in_default.not-Reading c.requires)
+pub returns-clause-owners : goal.returns-clause-owners
+returns-clause-owners c =
+    owners-set (names_of c.args.self.now.versions.items) c.args.self.now.uses c.args.slot.number (Reading c.in-Reading.version (c.in-Reading.place + c.min-count.result) c.in-Reading.end)
+    (λ name. rw c.in-Reading.is refl)

@@ -1,6 +1,6 @@
 use Rattle.std.proofs.Common.{◌≡◌, ◌∙◌, ap, refl, take, true, not}
 use Rattle.std.specs.Prelude.{is_ok}
-use Rattle.sr_desk.specs.Memory.{names_of, texts_of, usage_at, more_texts, more_out}
+use Rattle.sr_desk.specs.MemoryParts.{names_of, texts_of, usage_at, more_texts, more_out}
 use Rattle.sr_desk.proofs.DeskLemmas.{writes-ok}
 use Rattle.sr_desk.proofs.memory.MemoryDeskDesk.write.Goals as goal
 

@@ -1,8 +1,9 @@
-use Rattle.sr_desk.proofs.ReaderLemmas.{gives_next}
+use Rattle.std.proofs.Common.{◌+◌}
+use Rattle.sr_desk.specs.Reader.{reader_of}
+use Rattle.sr_desk.proofs.ReaderLemmas.{gives_byte, gives_next_byte}
 use Rattle.sr_desk.proofs.reader.ByteReader.next.Goals as goal
 
-pub returns-clause-next : goal.returns-clause-next
-returns-clause-next g c =
-    let filled = c.in_ok-ready.ensures.ok in
-    gives_next c.args.self.now c.ready.new.self c.take.new.self (g.D.Desk.outside c.args.desk.now) (g.D.Desk.outside c.ready.new.desk)
-    c.take.result filled.same filled.ready filled.keeps c.take.ensures.gives
+pub returns-then-self-clause-next : goal.returns-then-self-clause-next
+returns-then-self-clause-next g c =
+    gives_next_byte c.args.self.now (reader_of (record c.self.inside { at = c.self.inside.at + 1 })) (g.D.Desk.outside c.args.desk.now) c.index-byte.result.now
+    (gives_byte c.self.inside c.args.self.now c.index-byte.result.now c.self.view_is c.self.invariant c.if-self.true c.index-byte.ensures)

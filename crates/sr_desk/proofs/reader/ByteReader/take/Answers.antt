@@ -1,14 +1,8 @@
-use Rattle.std.proofs.Common.{◌≡◌, ◌<◌, refl, ap, sym, ◌∙◌, arith}
-use Rattle.sr_desk.proofs.ReaderLemmas.{ahead_some}
-use Rattle.sr_desk.specs.Reader.{Reader}
+use Rattle.sr_desk.proofs.ReaderLemmas.{gives_byte, gives_limit}
 use Rattle.sr_desk.proofs.reader.ByteReader.take.Goals as goal
 
+pub returns-then-self-clause-gives : goal.returns-then-self-clause-gives
+returns-then-self-clause-gives c = gives_byte c.self.inside c.args.self.now c.index-byte.result.now c.self.view_is c.self.invariant c.if-self.true c.index-byte.ensures
+
 pub returns-then-self-2-clause-gives : goal.returns-then-self-2-clause-gives
-returns-then-self-2-clause-gives c =
-    let lt : c.self.inside.at < c.self.inside.end = omega (arith, c.if-self.false) in
-    let taken : c.self.inside.taken ≡ c.args.self.now.taken = ap (λ (r : Reader). r.taken) c.self.view_is in
-    let limit : c.self.inside.limit ≡ c.args.self.now.limit = ap (λ (r : Reader). r.limit) c.self.view_is in (
-      λ e. ahead_some c.self.inside.at c.self.inside.end _ lt c.self.invariant.end (ap (λ (r : Reader). r.ahead) c.self.view_is ∙ e),
-      sym taken ∙ c.if-self-2.true ∙ limit,
-      refl,
-    )
+returns-then-self-2-clause-gives c = gives_limit c.self.inside c.args.self.now c.self.view_is c.self.invariant c.if-self.false c.if-self-2.true
