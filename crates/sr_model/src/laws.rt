@@ -1,5 +1,5 @@
 // The laws of the definitions, each as the contract of a function with no body.
-ghost use Rattle.sr_model.specs.Laws.{RefutationIsSound, ClosedChainRefutes, UnclosedChainKeeps, RupHolds, RedundancyKeeps, RedundancyIsSound, MetIsSound, EmptyIsSound, VerifiedIsUnsat, StrictIsVerified, TakingJudges, TakingKeepsLive, RejectionKeepsLive};
+ghost use Rattle.sr_model.specs.Laws.{RefutationIsSound, ClosedChainRefutes, UnclosedChainKeeps, RupHolds, RedundancyKeeps, RedundancyIsSound, MetIsSound, EmptyIsSound, VerifiedIsUnsat, StrictIsVerified, TakingJudges, TakingKeepsLive, RejectionKeepsLive, VerificationKeepsLive};
 
 /// What is refuted is false: no assignment satisfies the clauses and makes all the literals true.
 pub fn refutation_is_sound()
@@ -69,4 +69,9 @@ pub fn taking_keeps_live()
 /// Where an item is rejected, they end with the clauses that were live before it, whatever follows.
 pub fn rejection_keeps_live()
     ensures { RejectionKeepsLive }
+{}
+
+/// Where the empty clause verifies the proof, they end with the clauses that were live before it.
+pub fn verification_keeps_live()
+    ensures { VerificationKeepsLive }
 {}
