@@ -1,1 +1,4 @@
 pub mod PieceLemmas
+pub mod PartLemmas
+pub mod WitnessLemmas
+pub mod ReduceLemmas

@@ -1,8 +1,9 @@
 // The parts of a witness: variables with their images, in the order of writing or of the variables.
-ghost use Rattle.std.specs.Prelude.{◌≡◌, ◌↔◌, IfOk, MatchOption, IsTrue, Contains, All, ◌≢◌, ◌++◌, ◌∷◌, [], OnOk, map, filter, not};
+ghost use Rattle.std.specs.Prelude.{◌≡◌, ◌↔◌, IfOk, MatchOption, IsTrue, Contains, All, ◌≢◌, ◌<◌, length, ◌++◌, ◌∷◌, [], OnOk, map, filter, not};
 ghost use Rattle.std.specs.Ordering.{nat_cmp};
 ghost use Rattle.std.specs.BTreeMap as tree;
-ghost use Rattle.std.specs.List.Sorted.{IsNonDecreasingBy, IsStrictlyIncreasing};
+ghost use Rattle.std.specs.List.{AllAdjacentBelow};
+ghost use Rattle.std.specs.List.Sorted.{IsNonDecreasingBy};
 ghost use Rattle.sr_base.specs.Literal.{same, distinct};
 ghost use Rattle.sr_model.specs.Substitution.{opposite, made_true, sent};
 ghost use Rattle.sr_model.specs.Witnesses.{same_image, twice_of, parts_of, from_variable, first_maps};
@@ -114,7 +115,7 @@ fn push_part(parts: &mut Vec<Part>, part: Part) -> Result<(), NoMemory>
 
 /// Whether each variable is above the one before it.
 pub(crate) fn rises(parts: &[Part]) -> bool
-    ensures { IsTrue result ↔ IsStrictlyIncreasing (map (λ p. p.0) parts.now) }
+    ensures { IsTrue result ↔ AllAdjacentBelow (λ p q. p.0 < q.0) parts.now (length parts.now) }
 {
     for i in 1..parts.len() {
         if parts[i].0 <= parts[i - 1].0 {
@@ -152,9 +153,9 @@ pub(crate) fn first_twice(alloc: Global, parts: &[Part]) -> Result<Option<u32>, 
         if clash {
             found = Some(part.0);
         }
-        if later.insert(part.0, (part.1, clash)).is_err() {
+        let Ok(_) = later.insert(part.0, (part.1, clash)) else {
             return Err(NoMemory);
-        }
+        };
     }
     Ok(found)
 }

@@ -3,7 +3,7 @@
 ghost use Rattle.std.specs.Prelude.{◌≡◌, false, [], IfOk, List, map, take};
 ghost use Rattle.std.specs.List.Sorted.{IsNonDecreasing, IsPermutation};
 ghost use Rattle.sr_base.specs.Literal.{distinct, literal_code};
-ghost use Rattle.sr_model.specs.Substitution.{substitution, has_pair, image_literals};
+ghost use Rattle.sr_model.specs.Substitution.{substitution, is_image, has_pair, image_literals};
 ghost use Rattle.sr_wit.specs.Reductions.{HasMet, HasStripped, IsLikeness, IsLikenessOfCodes};
 
 use crate::subst::Subst;
@@ -45,19 +45,31 @@ pub(crate) fn collect_images(
     out.cut(0);
     let mut touched = false;
     for l in lits {
-        match subst.image(*l) {
+        let image = subst.image(*l);
+        if !is_own(&image, *l) {
+            touched = true;
+        }
+        match image {
             Image::Yes => return Ok(Reduced::Satisfied),
-            Image::No => touched = true,
-            Image::To(k) => {
-                touched = touched || !k.is(*l);
-                out.push(k)?;
-            }
+            Image::No => {}
+            Image::To(k) => out.push(k)?,
         }
     }
     if touched {
         Ok(Reduced::Left)
     } else {
         Ok(Reduced::Untouched)
+    }
+}
+
+/// Whether the image of a literal is the literal.
+#[inline]
+fn is_own(image: &Image, l: Lit) -> bool
+    ensures { result ≡ is_image image.now l }
+{
+    match image {
+        Image::To(k) => k.is(l),
+        _ => false,
     }
 }
 

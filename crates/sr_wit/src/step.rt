@@ -1,12 +1,13 @@
 // Steps of a proof by hints, after LRAT and its extension by witnesses (Codel, Avigad and Heule 2024).
-ghost use Rattle.std.specs.Prelude.{◌≡◌, ◌↔◌, IsNone, IfSome, option_map};
+ghost use Rattle.std.specs.Prelude.{◌≡◌, ◌↔◌, IsNone, IfSome, IsTrue};
 ghost use Rattle.std.specs.Option.{option_copied};
+ghost use Rattle.sr_model.specs.Substitution.{IsPivot};
 ghost use Rattle.sr_model.specs.Meeting.{HasPivot};
 ghost use Rattle.sr_wit.specs.Steps.{step_with, LacksPivot};
 
 use crate::group::GroupList;
 use crate::subst::Subst;
-use sr_base::{Clause, IdList};
+use sr_base::{Clause, IdList, Lit};
 use std::marker::Model;
 
 /// A step: the clause that it adds under its number, its witness where one is written, the hints of its
@@ -43,11 +44,10 @@ impl Step {
         ensures none { IsNone result ↔ LacksPivot clause witness }
         ensures some { IfSome result (λ s. s ≡ step_with id clause witness prefix groups) }
     {
-        if let Some(subst) = &witness {
-            match clause.lits().first() {
-                Some(first) if first.is(subst.pivot()) => {}
-                _ => return None,
-            }
+        if let Some(subst) = &witness
+            && !is_first(subst.pivot(), &clause)
+        {
+            return None;
         }
         Some(Step {
             id,
@@ -101,5 +101,15 @@ impl Step {
         ensures { result.now ≡ self.now.groups }
     {
         &self.groups
+    }
+}
+
+/// Whether a literal is the first of a clause.
+fn is_first(pivot: Lit, clause: &Clause) -> bool
+    ensures { IsTrue result ↔ IsPivot pivot clause.now }
+{
+    match clause.lits() {
+        [first, ..] => first.is(pivot),
+        [] => false,
     }
 }
