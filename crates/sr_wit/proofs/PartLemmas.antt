@@ -1,7 +1,7 @@
 -- Parts of a witness.
-use Rattle.std.proofs.Common.{◌≡◌, ◌≢◌, ◌==◌, ◌||◌, ◌&&◌, ◌<◌, ◌≤◌, ◌+◌, ◌-◌, drop, inl, inr, ℕ, Bool, true, false, not, cond, Option, Some, None, List, [], ◌∷◌, ◌++◌, map, length, get_or, refl, sym, ap, ◌∙◌, subst, arith}
+use Rattle.std.proofs.Common.{◌≡◌, ◌≢◌, ◌==◌, ◌<◌, ◌≤◌, ◌+◌, ◌-◌, drop, inl, inr, ℕ, Bool, true, false, cond, Option, Some, None, List, [], ◌∷◌, map, length, get_or, refl, sym, ap, ◌∙◌, arith}
 use Rattle.std.proofs.lemmas.Bool.Decides.{nat_tests}
-use Rattle.std.specs.Prelude.{filter, All, Contains}
+use Rattle.std.specs.Prelude.{All, Contains}
 use Rattle.std.specs.Ordering.{nat_cmp, ordering_index}
 use Rattle.std.specs.declared.cmp.Ordering.TheVariants.{Less, Equal, Greater}
 use Rattle.std.specs.BTreeMap.{is_at}
@@ -10,16 +10,14 @@ use Rattle.std.specs.List.Sorted.{IsNonDecreasingBy, IsPartitionPoint}
 use Rattle.std.proofs.lemmas.Bool.{cases_lt}
 use Rattle.std.proofs.lemmas.Cmp.{ranked}
 use Rattle.std.proofs.lemmas.List.{drop_more, get_or_default}
-use Rattle.std.proofs.lemmas.List.{map-append, append-nil}
-use Rattle.std.proofs.lemmas.List.Elements.{All-cons, All-head, All-tail, All-nil, filter-append}
-use Rattle.sr_base.specs.Literal.{Literal, plus, minus, variable, complement, same, has, distinct, NoRepeats}
+use Rattle.std.proofs.lemmas.List.Elements.{All-cons, All-head, All-tail, All-nil}
+use Rattle.sr_base.specs.Literal.{Literal, plus, has}
 use Rattle.sr_base.proofs.Literals.{same_tells}
-use Rattle.sr_model.specs.Assignment.{holds_number}
-use Rattle.sr_model.specs.Substitution.{Substitution, image_of_variable, made_true, sent, substitution}
-use Rattle.sr_model.specs.Witnesses.{same_image, clashes, twice_of, parts_of, from_variable, first_maps, witness_by}
+use Rattle.sr_model.specs.Substitution.{image_of_variable}
+use Rattle.sr_model.specs.Witnesses.{same_image, clashes, twice_of}
 use Rattle.sr_model.specs.declared.images.Image.{Image}
 use Rattle.sr_model.specs.declared.images.Image.TheVariants.{Yes, No, To}
-use Rattle.sr_wit.specs.Signs.{is_plus, differs}
+use Rattle.sr_wit.specs.Signs.{differs}
 
 -- a set holds the variables of these maps
 abbrev pub AreVariablesOf : (ℕ → Bool) → List (Literal × Literal) → Type 0

@@ -1,11 +1,11 @@
 -- What a substitution makes of a clause, literal by literal, and repeats and pairs among literals.
-use Rattle.std.proofs.Common.{◌≡◌, ◌≢◌, ◌==◌, ◌||◌, ◌&&◌, ◌⊎◌, ◌<◌, ◌≤◌, ◌+◌, ◌-◌, ◌*◌, ◌%◌, ◌/◌, ℕ, zero, suc, Bool, true, false, not, cond, Option, Some, None, List, [], ◌∷◌, ◌++◌, map, length, get_or, take, drop, refl, sym, ap, ◌∙◌, subst, inl, inr, arith}
+use Rattle.std.proofs.Common.{◌≡◌, ◌==◌, ◌||◌, ◌&&◌, ◌<◌, ◌+◌, ◌-◌, ◌*◌, ◌%◌, ◌/◌, ℕ, zero, suc, Bool, true, false, not, Option, Some, None, List, [], ◌∷◌, ◌++◌, map, length, get_or, take, drop, refl, sym, ap, ◌∙◌, subst, inl, inr, arith}
 use Rattle.std.proofs.lemmas.Bool.{cases_lt, cases_eq}
 use Rattle.std.proofs.lemmas.Bool.Decides.{nat_tests}
-use Rattle.std.specs.List.{list_any, filter_map, cons_option, IsDistinct}
+use Rattle.std.specs.List.{list_any, filter_map, cons_option}
 use Rattle.std.specs.Ordering.{nat_cmp, eq_by_cmp}
 use Rattle.std.specs.List.Sorted.{IsPermutation, IsStrictlyIncreasing, IsNonDecreasing}
-use Rattle.std.proofs.lemmas.List.{take-append-drop, map-append, get_or_default}
+use Rattle.std.proofs.lemmas.List.{take-append-drop}
 use Rattle.std.proofs.lemmas.List.Folds.{list_any-append}
 use Rattle.std.proofs.lemmas.List.Sorted.{list_any-IsPermutation, IsPermutation-sym}
 use Rattle.std.proofs.lemmas.Map.Keys.{IsDistinct-from_sorted, IsDistinct-IsPermutation, sorted_from_strictly_increasing}
@@ -130,13 +130,13 @@ even_literal ls cs c moved even low high =
 pub pair-codes : (ls : List Literal) (cs : List ℕ) → IsPermutation (map literal_code ls) cs → has_code_pair cs ≡ has_pair ls
 pair-codes ls cs moved = same_bool (has_code_pair cs) (has_pair ls)
     (λ h.
-        let at = code_pair_of cs h in
-        even_literal ls cs (get_or cs at.0 0) moved at.4
-        (number_any (λ d. d == get_or cs at.0 0) cs at.0 at.2 (grind (arith, nat_tests)))
-        (number_any (λ d. d == get_or cs at.0 0 + 1) cs at.1 at.3 (grind (arith, nat_tests, at.5))))
+    let at = code_pair_of cs h in
+    even_literal ls cs (get_or cs at.0 0) moved at.4
+    (number_any (λ d. d == get_or cs at.0 0) cs at.0 at.2 (grind (arith, nat_tests)))
+    (number_any (λ d. d == get_or cs at.0 0 + 1) cs at.1 at.3 (grind (arith, nat_tests, at.5))))
     (λ h.
-        let at = pair_of ls h in
-        code_pair_from cs at.0 (there-codes (plus at.0) ls cs moved ∙ at.1) (there-codes (minus at.0) ls cs moved ∙ at.2))
+    let at = pair_of ls h in
+    code_pair_from cs at.0 (there-codes (plus at.0) ls cs moved ∙ at.1) (there-codes (minus at.0) ls cs moved ∙ at.2))
 
 -- codes that rise strictly are those of distinct literals
 number-codes : (l : Literal) (ls : List Literal) → holds_number (literal_code l) (map literal_code ls) ≡ has l ls
@@ -179,8 +179,8 @@ no_code_pair cs sorted none = by (has_code_pair cs) refl
         let at = code_pair_of cs h in
         elim (cases_lt at.0 at.1) [
           | inl below ↦
-            let far : at.0 + suc (at.1 - at.0 - 1) ≡ at.1 = omega arith in
-            absurd (walk cs sorted none (get_or cs at.0 0) at.0 (at.1 - at.0 - 1) at.4 refl (rw far at.5) (omega (arith, at.3)))
+              let far : at.0 + suc (at.1 - at.0 - 1) ≡ at.1 = omega arith in
+              absurd (walk cs sorted none (get_or cs at.0 0) at.0 (at.1 - at.0 - 1) at.4 refl (rw far at.5) (omega (arith, at.3)))
           | inr above ↦ let falls = sorted at.1 at.0 0 above at.2 in absurd (omega (arith, at.5))
         ]
 

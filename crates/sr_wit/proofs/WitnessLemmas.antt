@@ -1,7 +1,7 @@
 -- What is kept of the parts of a witness.
-use Rattle.std.proofs.Common.{◌≡◌, ◌≢◌, ◌==◌, ◌||◌, ◌&&◌, ◌<◌, ◌+◌, ℕ, Bool, true, false, not, cond, Option, Some, None, List, [], ◌∷◌, ◌++◌, map, length, get_or, refl, sym, ap, ◌∙◌, subst, arith}
+use Rattle.std.proofs.Common.{◌≡◌, ◌≢◌, ◌==◌, ◌||◌, ◌<◌, ◌+◌, ℕ, Bool, true, false, not, cond, None, List, [], ◌∷◌, ◌++◌, map, length, get_or, refl, sym, ap, ◌∙◌, subst, arith}
 use Rattle.std.proofs.lemmas.Bool.Decides.{nat_tests}
-use Rattle.std.specs.Prelude.{filter, All}
+use Rattle.std.specs.Prelude.{filter}
 use Rattle.std.specs.Ordering.{nat_cmp, eq_by_cmp}
 use Rattle.std.specs.List.{IsDistinct, AllByRecursion, AllAdjacentBelow}
 use Rattle.std.specs.List.Sorted.{IsPermutation, IsStrictlyIncreasing, IsNonDecreasingBy}
@@ -9,13 +9,13 @@ use Rattle.std.proofs.lemmas.List.Sorted.{IsPermutation-sym, IsPermutation-map, 
 use Rattle.std.proofs.lemmas.Map.Keys.{IsDistinct-head, IsDistinct-tail, IsDistinct-from_sorted, IsDistinct-IsPermutation, sorted_from_strictly_increasing}
 use Rattle.std.proofs.lemmas.List.{map-append, append-nil, length-map, get_or-map}
 use Rattle.std.proofs.lemmas.List.Elements.{filter-append}
-use Rattle.sr_base.specs.Literal.{Literal, plus, minus, variable, complement, same, has, distinct, NoRepeats}
+use Rattle.sr_base.specs.Literal.{Literal, plus, minus, variable, same, has, distinct, NoRepeats}
 use Rattle.sr_base.proofs.Literals.{same_tells, has_append}
 use Rattle.sr_model.specs.Assignment.{holds_number}
 use Rattle.sr_model.specs.Substitution.{Substitution, image_of_variable, made_true, sent, substitution}
-use Rattle.sr_model.specs.Witnesses.{same_image, clashes, twice_of, parts_of, from_variable, first_maps, witness_by}
+use Rattle.sr_model.specs.Witnesses.{clashes, twice_of, parts_of, from_variable, first_maps, witness_by}
 use Rattle.sr_model.specs.declared.images.Image.{Image}
-use Rattle.sr_model.specs.declared.images.Image.TheVariants.{Yes, No, To}
+use Rattle.sr_model.specs.declared.images.Image.TheVariants.{Yes, To}
 use Rattle.sr_wit.specs.Tables.{IsTableOf, witness_with}
 use Rattle.std.specs.BTreeMap.{is_at}
 use Rattle.sr_wit.proofs.PartLemmas.{AreVariablesOf, parts_tell, image-none}
@@ -80,24 +80,24 @@ sent-from_variable : (m : Literal × Literal) → sent (from_variable m) ≡ sen
 sent-from_variable (plus v, w) = refl
 sent-from_variable (minus v, w) = refl
 
-map-sent-from_variable : (ms : List (Literal × Literal)) → map sent (map from_variable ms) ≡ map sent ms
+pub map-sent-from_variable : (ms : List (Literal × Literal)) → map sent (map from_variable ms) ≡ map sent ms
 map-sent-from_variable [] = refl
 map-sent-from_variable (m ∷ ms) = rw (sent-from_variable m, map-sent-from_variable ms) refl
 
 same_maps : (maps : List (Literal × Literal)) (v : ℕ) → image_of_variable (map sent (first_maps (map from_variable maps))) v ≡ image_of_variable (map sent maps) v
 same_maps maps v =
     image-all (map sent (first_maps (map from_variable maps))) v ∙ maps-first (map from_variable maps) v (To (plus v))
-        ∙ ap (λ ps. image_or ps v (To (plus v))) (map-sent-from_variable maps) ∙ sym (image-all (map sent maps) v)
+    ∙ ap (λ ps. image_or ps v (To (plus v))) (map-sent-from_variable maps) ∙ sym (image-all (map sent maps) v)
 
 same_others : (p : Literal) (trues : List Literal) (maps : List (Literal × Literal)) (v : ℕ) → (variable p == v) ≡ false
     → image_of_variable (map made_true (filter (λ l. not (same p l)) (distinct trues)) ++ map sent (first_maps (map from_variable maps))) v
     ≡ image_of_variable (map made_true trues ++ map sent maps) v
 same_others p trues maps v h =
     image-append (map made_true (filter (λ l. not (same p l)) (distinct trues))) (map sent (first_maps (map from_variable maps))) v
-        ∙ ap (image_or (map made_true (filter (λ l. not (same p l)) (distinct trues))) v) (same_maps maps v)
-        ∙ trues-filter p (distinct trues) v (image_of_variable (map sent maps) v) h
-        ∙ trues-distinct trues v (image_of_variable (map sent maps) v)
-        ∙ sym (image-append (map made_true trues) (map sent maps) v)
+    ∙ ap (image_or (map made_true (filter (λ l. not (same p l)) (distinct trues))) v) (same_maps maps v)
+    ∙ trues-filter p (distinct trues) v (image_of_variable (map sent maps) v) h
+    ∙ trues-distinct trues v (image_of_variable (map sent maps) v)
+    ∙ sym (image-append (map made_true trues) (map sent maps) v)
 
 -- what is kept of the parts gives the same images
 pub image-witness_by : (p : Literal) (trues : List Literal) (maps : List (Literal × Literal)) (v : ℕ)
@@ -129,7 +129,7 @@ lacks_variable : (l : Literal) (ls : List Literal) → holds_number (variable l)
 lacks_variable l [] h = refl
 lacks_variable l (k ∷ ks) h = grind (arith, nat_tests, lacks_variable l ks, same_tells k l)
 
-filter_absent : (l : Literal) (ks : List Literal) → has l ks ≡ false → filter (λ k. not (same l k)) ks ≡ ks
+pub filter_absent : (l : Literal) (ks : List Literal) → has l ks ≡ false → filter (λ k. not (same l k)) ks ≡ ks
 filter_absent l [] h = refl
 filter_absent l (k ∷ ks) h = grind (arith, filter_absent l ks, same_tells l k, same_tells k l)
 

@@ -1,6 +1,7 @@
 pub mod Pieces
 pub mod Formulas
 pub mod Signs
+pub mod Kept
 pub mod Tables
 pub mod Reductions
 pub mod Steps

@@ -1,5 +1,5 @@
 -- What the code asks of literals and of parts.
-use Rattle.std.specs.Prelude.{ℕ, ◌==◌, ◌||◌, Bool, true, false, not, cond, Option, Some, None, List, [], ◌∷◌}
+use Rattle.std.specs.Prelude.{◌||◌, Bool, true, false, not, Option, Some, None}
 use Rattle.sr_base.specs.Literal.{Literal, plus, minus}
 use Rattle.sr_model.specs.Witnesses.{same_image}
 use Rattle.sr_model.specs.declared.images.Image.{Image}

@@ -1,5 +1,5 @@
 -- Steps and items of their parts.
-use Rattle.std.specs.Prelude.{ℕ, ◌≡◌, List, Option, Some, None}
+use Rattle.std.specs.Prelude.{ℕ, List, Option, Some, None}
 use Rattle.sr_base.specs.Literal.{Literal}
 use Rattle.sr_model.specs.Substitution.{Witness, IsPivot}
 use Rattle.sr_model.specs.Meeting.{Step, Group}

@@ -1,10 +1,11 @@
 -- The parts of a substitution in the order of their variables, for binary search.
 use Rattle.std.specs.Prelude.{ℕ, ◌≡◌, ◌≢◌, List, All}
 use Rattle.std.specs.List.Sorted.{IsNonDecreasingBy}
-use Rattle.sr_base.specs.Literal.{Literal, plus, minus}
-use Rattle.sr_model.specs.Substitution.{Substitution, Witness, image_of_variable}
+use Rattle.sr_base.specs.Literal.{Literal, plus}
+use Rattle.sr_model.specs.Substitution.{Substitution, Witness, substitution, image_of_variable}
 use Rattle.sr_model.specs.declared.images.Image.{Image}
 use Rattle.sr_model.specs.declared.images.Image.TheVariants.{To}
+use Rattle.sr_wit.specs.Kept.{IsKept}
 
 -- each part tells the image of its variable, and a variable that has no part keeps itself
 pub record IsTableOf (s : Substitution) (table : List (ℕ × Image)) : Type 0 where
@@ -14,3 +15,8 @@ pub record IsTableOf (s : Substitution) (table : List (ℕ × Image)) : Type 0 w
 
 abbrev pub witness_with : Literal → List Literal → List (Literal × Literal) → Witness
 witness_with pivot assigned maps = record { pivot = pivot; assigned = assigned; maps = maps }
+
+-- what a substitution keeps true of its fields
+pub record HoldsSubst (w : Witness) (table : List (ℕ × Image)) : Type 0 where
+  pub kept : IsKept w
+  pub images : IsTableOf (substitution w) table

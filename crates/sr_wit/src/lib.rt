@@ -1,6 +1,9 @@
 //! The values that the formats read and write: formulas, witnesses, steps and deletions.
+//!
+//! A substitution is seen as the witness that it writes, and answers as the substitution of that witness.
 #![tactic(auto)]
 
+mod fault;
 mod formula;
 mod group;
 mod item;
@@ -9,6 +12,7 @@ mod reduce;
 mod step;
 mod subst;
 
+pub use fault::InFault;
 pub use formula::Formula;
 pub use group::{Group, GroupList};
 pub use item::{ItemList, LsrItem, StepList};

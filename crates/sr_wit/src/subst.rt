@@ -4,11 +4,12 @@ ghost use Rattle.std.specs.Prelude.{◌≡◌, None, [], IfOk, IfErr, OnOk, OnEr
 ghost use Rattle.sr_model.specs.Substitution.{substitution, image, reduction};
 ghost use Rattle.sr_model.specs.Witnesses.{parts_of, twice_of, witness_by};
 ghost use Rattle.sr_wit.specs.Reductions.{reduced_of, HasNoneBeside};
+ghost use Rattle.sr_wit.specs.Kept.{IsKept};
 ghost use Rattle.sr_wit.specs.Faults.{TellsTwice};
 
 use crate::parts::{
-    Part, all_maps, find, first_maps, first_twice, is_positive, made_true, opposite, other_literals,
-    rises, written_parts,
+    Part, all_maps, find, first_maps, first_twice, is_positive, made_true, opposite,
+    other_literals, rises, written_parts,
 };
 use crate::reduce::{Reduced, collect_images, keep_distinct};
 use sr_base::{Lit, LitList, NoMemory};
@@ -48,14 +49,14 @@ pub struct Subst {
 }
 
 impl Model for Subst {
-    ghost use Rattle.sr_model.specs.Substitution.{Witness, substitution};
-    ghost use Rattle.sr_wit.specs.Tables.{IsTableOf, witness_with};
+    ghost use Rattle.sr_model.specs.Substitution.{Witness};
+    ghost use Rattle.sr_wit.specs.Tables.{HoldsSubst, witness_with};
 
     ghost Value = { Witness };
 
     ghost view = { λ s. witness_with s.pivot s.assigned.items s.maps.items };
 
-    ghost invariant = { λ s. IsTableOf (substitution (witness_with s.pivot s.assigned.items s.maps.items)) s.table.items };
+    ghost invariant = { λ s. HoldsSubst (witness_with s.pivot s.assigned.items s.maps.items) s.table.items };
 }
 
 impl Subst {
@@ -134,9 +135,11 @@ impl Subst {
         }
     }
 
-    /// The literal that becomes true first of all.
+    /// The literal that becomes true first of all. What is kept beside it repeats no part and goes from
+    /// variables, so that the same parts make the same substitution.
     pub fn pivot(&self) -> Lit
-        ensures { result ≡ self.now.pivot }
+        ensures value { result ≡ self.now.pivot }
+        ensures kept { IsKept self.now }
     {
         self.pivot
     }

@@ -1,6 +1,6 @@
-use Rattle.std.proofs.Common.{◌≡◌, ◌-◌, ◌*◌, ◌<◌, ◌≤◌, suc, zero, ℕ, List, arith, rules, length, get_or}
+use Rattle.std.proofs.Common.{◌≡◌, ◌-◌, ◌<◌, ◌≤◌, suc, zero, ℕ, List, arith, length, get_or}
 use Rattle.std.proofs.lemmas.Grind.{common_steps}
-use Rattle.sr_wit.specs.Pieces.{AreEnds, start_at}
+use Rattle.sr_wit.specs.Pieces.{AreEnds}
 use Rattle.sr_wit.proofs.PieceLemmas.{piece_within}
 use Rattle.sr_wit.proofs.formula.piece.Goals as goal
 

@@ -1,4 +1,4 @@
-use Rattle.std.proofs.Common.{rules, ap, sym, ◌∙◌}
+use Rattle.std.proofs.Common.{rules}
 use Rattle.std.proofs.lemmas.List.Sorted.{answers_always}
 use Rattle.sr_wit.proofs.PartLemmas.{found_part, absent_part}
 use Rattle.sr_wit.proofs.parts.find.Goals as goal

@@ -1,8 +1,6 @@
-use Rattle.std.proofs.Common.{◌≡◌, ◌-◌, ◌<◌, ◌≤◌, ℕ, true, false, cond, Some, drop, arith, ap, sym, ◌∙◌}
-use Rattle.std.proofs.lemmas.Grind.{common_steps}
+use Rattle.std.proofs.Common.{◌≡◌, drop, arith, ap, ◌∙◌}
 use Rattle.std.specs.Ordering.{nat_cmp}
 use Rattle.std.specs.BTreeMap as tree
-use Rattle.std.specs.BTreeMap.{is_at}
 use Rattle.sr_wit.specs.Signs.{differs}
 use Rattle.sr_wit.proofs.PartLemmas.{summary, twice_of-before, summary-before}
 use Rattle.sr_wit.proofs.parts.first_twice.Goals as goal

@@ -1,8 +1,7 @@
-use Rattle.std.proofs.Common.{◌≡◌, ◌+◌, ◌++◌, ◌∷◌, [], List, true, false, not, take, arith, ap, sym, ◌∙◌}
+use Rattle.std.proofs.Common.{◌≡◌, ◌+◌, ◌++◌, ◌∷◌, [], List, take, arith, ap, sym, ◌∙◌}
 use Rattle.std.proofs.lemmas.List.{take_more}
 use Rattle.sr_base.specs.Literal.{Literal}
-use Rattle.sr_model.specs.declared.images.Image.TheVariants.{No, To}
-use Rattle.sr_model.specs.Substitution.{Substitution, substitution, image, is_image, is_yes, is_touched, image_literals}
+use Rattle.sr_model.specs.Substitution.{Substitution, substitution, image, is_image, is_yes}
 use Rattle.sr_wit.proofs.ReduceLemmas.{image_literals_false, image_literals_push, is_touched_push, none_true_push}
 use Rattle.sr_wit.proofs.reduce.collect_images.Goals as goal
 use Rattle.sr_wit.proofs.reduce.collect_images.Goals.{then-not-is_own, else-not-is_own, in-No, in-To+in_ok-push-in-To}
@@ -24,7 +23,7 @@ loop-l-preserved c =
       images = rw more (elim c.match-image.branch [
         | in-No w ↦ w.out-is ∙ c.loop-l.invariant.images ∙ sym (image_literals_false s done l (sym c.image-image.ensures ∙ w.in-No.is))
         | in-To+in_ok-push-in-To w ↦
-          w.out-is ∙ w.in_ok-push-in-To.ensures.ok ∙ ap (λ (ks : List Literal). ks ++ w.in-To.k ∷ []) c.loop-l.invariant.images
-              ∙ sym (image_literals_push s done l w.in-To.k (sym c.image-image.ensures ∙ w.in-To.is))
+            w.out-is ∙ w.in_ok-push-in-To.ensures.ok ∙ ap (λ (ks : List Literal). ks ++ w.in-To.k ∷ []) c.loop-l.invariant.images
+            ∙ sym (image_literals_push s done l w.in-To.k (sym c.image-image.ensures ∙ w.in-To.is))
       ]);
     }

@@ -1,5 +1,4 @@
 use Rattle.std.proofs.Common.{sym}
-use Rattle.sr_wit.specs.Reductions.{IsLikeness}
 use Rattle.sr_wit.proofs.WitnessLemmas.{distinct_same}
 use Rattle.sr_wit.proofs.reduce.keep_distinct.Goals as goal
 

@@ -1,6 +1,5 @@
-use Rattle.std.proofs.Common.{◌≡◌, ◌+◌, ◌++◌, ◌∷◌, [], true, false, take, arith, ap, sym, ◌∙◌}
+use Rattle.std.proofs.Common.{◌≡◌, ◌+◌, ◌++◌, ◌∷◌, [], true, take, arith, ap, sym, ◌∙◌}
 use Rattle.std.proofs.lemmas.List.{take_more}
-use Rattle.sr_base.specs.Literal.{has, complement, NoRepeats}
 use Rattle.sr_base.proofs.Literals.{no_repeats_push}
 use Rattle.sr_model.specs.Substitution.{has_pair}
 use Rattle.sr_wit.proofs.ReduceLemmas.{has_pair_push, has_pair-take}
@@ -22,7 +21,7 @@ loop-i-preserved c =
     record {
       apart = rw more (grind (arith, has_pair_push (take c.loop-i.i c.args.lits.now) c.index-lits-i.result));
       distinct = λ h. elim c.if-repeated.branch [
-          | then-repeated w ↦ absurd (grind arith)
-          | else-repeated w ↦ rw more (no_repeats_push c.index-lits-i.result (take c.loop-i.i c.args.lits.now) (c.loop-i.invariant.distinct (grind arith)) (grind arith))
-        ];
+        | then-repeated w ↦ absurd (grind arith)
+        | else-repeated w ↦ rw more (no_repeats_push c.index-lits-i.result (take c.loop-i.i c.args.lits.now) (c.loop-i.invariant.distinct (grind arith)) (grind arith))
+      ];
     }

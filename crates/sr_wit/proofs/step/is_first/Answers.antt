@@ -1,5 +1,4 @@
-use Rattle.std.proofs.Common.{◌≡◌, ◌≤◌, ◌≢◌, ◌⊎◌, inl, inr, List, [], ◌∷◌, length, get_or, true, false, Bool, refl, sym, ap, ◌∙◌, subst, arith}
-use Rattle.std.specs.Bool.{IsTrue}
+use Rattle.std.proofs.Common.{◌≡◌, ◌≤◌, List, [], ◌∷◌, length, get_or, true, sym, ◌∙◌, arith}
 use Rattle.sr_base.specs.Literal.{Literal, same}
 use Rattle.sr_base.proofs.Literals.{same_tells}
 use Rattle.sr_model.specs.Substitution.{IsPivot}

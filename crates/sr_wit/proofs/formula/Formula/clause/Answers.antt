@@ -1,9 +1,7 @@
-use Rattle.std.proofs.Common.{◌≡◌, ◌-◌, ◌<◌, ◌≤◌, [], arith, length, ap, get_or, sym, ◌∙◌}
-use Rattle.std.proofs.lemmas.Grind.{common_steps}
+use Rattle.std.proofs.Common.{◌-◌, ◌<◌, [], arith, length, ap, get_or, sym, ◌∙◌}
 use Rattle.std.specs.Prelude.{All}
 use Rattle.sr_base.specs.Literal.{NoRepeats}
 use Rattle.sr_wit.specs.Formulas.{UsesUpTo}
-use Rattle.sr_wit.specs.Pieces.{pieces}
 use Rattle.sr_wit.proofs.PieceLemmas.{length-pieces, get_or-pieces}
 use Rattle.sr_wit.proofs.formula.Formula.clause.Goals as goal
 

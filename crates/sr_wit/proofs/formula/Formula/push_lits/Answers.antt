@@ -1,6 +1,5 @@
-use Rattle.std.proofs.Common.{◌≡◌, ◌++◌, ◌∷◌, [], ◌+◌, ◌<◌, length, arith, ap, sym, ◌∙◌, subst, refl}
+use Rattle.std.proofs.Common.{◌≡◌, ◌++◌, ◌∷◌, [], ◌+◌, length, arith, ap, refl}
 use Rattle.std.proofs.lemmas.Grind.{common_steps}
-use Rattle.sr_wit.specs.Pieces.{pieces}
 use Rattle.sr_wit.specs.Formulas.{UsesUpTo}
 use Rattle.sr_wit.proofs.PieceLemmas.{length-pieces, pieces-push, formula-push}
 use Rattle.sr_wit.proofs.formula.Formula.push_lits.Goals as goal

@@ -1,21 +1,26 @@
-use Rattle.std.proofs.Common.{◌≡◌, ◌<◌, Option, None, Some, ℕ, List, map, length, rules, arith, ap, sym, refl, ◌∙◌, subst}
+use Rattle.std.proofs.Common.{◌≡◌, ◌<◌, Option, None, Some, ℕ, List, map, length, rules, ap, sym, refl, ◌∙◌, subst}
 use Rattle.std.specs.List.{AllAdjacentBelow}
 use Rattle.std.specs.List.Sorted.{IsPermutation, IsNonDecreasingBy}
 use Rattle.std.proofs.lemmas.List.Sorted.{IsNonDecreasingBy-from_sort_by_key}
 use Rattle.sr_base.specs.Literal.{Literal}
 use Rattle.sr_model.specs.declared.images.Image.{Image}
 use Rattle.sr_model.specs.Substitution.{Witness, substitution, image_of_variable}
-use Rattle.sr_model.specs.Witnesses.{parts_of, twice_of, witness_by, from_variable}
-use Rattle.sr_wit.specs.Tables.{IsTableOf, witness_with}
+use Rattle.sr_model.specs.Witnesses.{parts_of, twice_of, witness_by}
+use Rattle.sr_wit.specs.Kept.{IsKept}
+use Rattle.sr_wit.specs.Tables.{HoldsSubst, witness_with}
+use Rattle.sr_wit.proofs.KeptLemmas.{kept}
 use Rattle.sr_wit.proofs.WitnessLemmas.{AllDiffer, image-witness_by, witness_by-differing, differing-sorted, twice_of-differing, table-of}
 use Rattle.sr_wit.proofs.subst.Subst.from_parts.Goals as goal
 
 -- the table of a witness that is made of the parts
 table : (pivot : Literal) (trues : List Literal) (maps : List (Literal × Literal)) (xs rest : List (ℕ × Image)) → xs ≡ parts_of pivot trues maps → IsPermutation xs rest
-    → IsNonDecreasingBy (λ p. p.0) rest → twice_of (parts_of pivot trues maps) ≡ None → (w : Witness) → w ≡ witness_by pivot trues maps → IsTableOf (substitution w) rest
+    → IsNonDecreasingBy (λ p. p.0) rest → twice_of (parts_of pivot trues maps) ≡ None → (w : Witness) → w ≡ witness_by pivot trues maps → HoldsSubst w rest
 table pivot trues maps xs rest e moved sorted once w is =
-    table-of (substitution w) (parts_of pivot trues maps) rest (subst (λ ps. IsPermutation ps rest) e moved) sorted once
-    (λ v. ap (λ u. image_of_variable (substitution u) v) is ∙ image-witness_by pivot trues maps v)
+    record {
+      kept = subst IsKept (sym is) (kept pivot trues maps once);
+      images = table-of (substitution w) (parts_of pivot trues maps) rest (subst (λ ps. IsPermutation ps rest) e moved) sorted once
+          (λ v. ap (λ u. image_of_variable (substitution u) v) is ∙ image-witness_by pivot trues maps v);
+    }
 
 no_variable : (o : Option ℕ) → ((v : ℕ) → o ≡ Some v → ⊥) → o ≡ None
 no_variable None h = refl
