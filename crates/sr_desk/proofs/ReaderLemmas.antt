@@ -1,5 +1,6 @@
 -- Facts on a reader's buffer, and on what it has still to give.
-use Rattle.std.proofs.Common.{◌≡◌, ◌≢◌, ℕ, ◌+◌, ◌<◌, ◌≤◌, Bool, true, false, List, [], ◌∷◌, ◌++◌, length, take, drop, get_or, cond, Option, Some, None, Ok, Err, refl, sym, ◌∙◌, ap, subst, arith, length-drop, length-take}
+use Rattle.std.proofs.Common.{◌-◌, ◌≡◌, ◌≢◌, ℕ, ◌+◌, ◌<◌, ◌≤◌, Bool, true, false, List, [], ◌∷◌, ◌++◌, length, take, drop, get_or, cond, Option, Some, None, Ok, Err, refl, sym, ◌∙◌, ap, subst, arith, length-drop, length-take, append_assoc}
+use Rattle.std.proofs.lemmas.List.{take-append-drop, take-take}
 use Rattle.std.specs.Prelude.{Result, option_map}
 use Rattle.sr_desk.specs.Outside.{Outside}
 use Rattle.sr_desk.specs.Reader.{Reader, last_after, reader_of, skipped, buffered, IsReader}
@@ -116,3 +117,22 @@ skips r n is le =
     let h = simp (length-drop, length-take) at le in
     let sum : r.before + (r.at + n) ≡ r.before + r.at + n = omega arith in
     rw (last_after-skip r.previous r.buffer.items r.at n r.held (omega arith), sum, ← drop-drop r.at n (take r.held r.buffer.items)) refl
+
+-- the first of what is ahead are the first of what is left
+front_left : (e : Bool) (xs ys : List ℕ) (left : Option (List ℕ)) (bytes : List ℕ) → left_by e (xs ++ ys) left ≡ Some bytes
+    → (rest : List ℕ) × (bytes ≡ xs ++ rest) × (left_by e ys left ≡ Some rest)
+unfolding left_by
+front_left true xs ys left bytes h = (ys, cc, refl)
+front_left false xs ys None bytes h = cc
+front_left false xs ys (Some l) bytes h =
+    let is : bytes ≡ (xs ++ ys) ++ l = cc in (ys ++ l, is ∙ append_assoc xs ys l, refl)
+
+-- some bytes at hand are taken: they are the first of those that were left, and the others are left then
+pub skipped-remaining : (r : Reader) (o : Outside) (n : ℕ) (bytes : List ℕ) → n ≤ length (buffered r) → remaining r o ≡ Some bytes
+    → (rest : List ℕ) × (bytes ≡ take n (buffered r) ++ rest) × (remaining (skipped r n) o ≡ Some rest)
+skipped-remaining r o n bytes le h =
+    let short : n ≤ r.limit - r.taken = omega (arith, simp length-take at le) in
+    let split : take n r.ahead ++ drop n r.ahead ≡ r.ahead = take-append-drop n r.ahead in
+    let now : left_by r.ended (take n r.ahead ++ drop n r.ahead) (o.slot r.slot).left ≡ Some bytes = rw split (sym (left_by_is r o) ∙ h) in
+    let found = front_left r.ended (take n r.ahead) (drop n r.ahead) (o.slot r.slot).left bytes now in
+    (found.0, found.1 ∙ rw (take-take n (r.limit - r.taken) r.ahead short) refl, left_by_is (skipped r n) o ∙ found.2)

@@ -1,7 +1,7 @@
 // Bytes in the order of a file, through a buffer of 64 KiB.
 //
 // The limit is applied where the buffer is filled, so taking a byte is one test and one load.
-ghost use Rattle.std.specs.Prelude.{◌≡◌, ◌≤◌, [], false, ◌↔◌, length, IsTrue, IfOk, OnOk, OnErr, None};
+ghost use Rattle.std.specs.Prelude.{◌≡◌, ◌≤◌, [], false, ◌<◌, ◌^◌, ◌↔◌, length, IsTrue, IfOk, OnOk, OnErr, None};
 ghost use Rattle.sr_desk.specs.Outside.{OnlyReads, HasCause};
 ghost use Rattle.sr_desk.specs.Reader.{buffered, skipped};
 ghost use Rattle.sr_desk.specs.Next.{Fills, Next, Gives, HasFaultCause, IsSameReader};
@@ -79,6 +79,7 @@ impl ByteReader {
     pub fn place(&self) -> u64
         ensures value { result ≡ self.now.taken }
         ensures limit { result ≤ self.now.limit }
+        ensures wide { self.now.limit < 2 ^ 64 }
     {
         self.before + self.at as u64
     }

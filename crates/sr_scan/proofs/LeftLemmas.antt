@@ -1,13 +1,16 @@
 -- The tokens that are left, by the machine and by the definition.
-use Rattle.std.proofs.Common.{◌≡◌, ℕ, ◌-◌, List, Option, Some, None, refl, ap}
-use Rattle.std.specs.Prelude.{option_map}
+use Rattle.std.proofs.Common.{◌≡◌, ℕ, ◌-◌, List, Option, Some, None, refl, ap, subst}
+use Rattle.std.specs.Prelude.{option_map, Result}
+use Rattle.sr_model.specs.Texts.{Texts}
+use Rattle.sr_model.specs.declared.tokens.Token.{Token}
+use Rattle.sr_scan.specs.declared.token.ScanStop.{ScanStop}
 use Rattle.sr_desk.specs.Outside.{Outside}
 use Rattle.sr_desk.specs.Reader.{Reader}
 use Rattle.sr_desk.specs.Next.{remaining}
 use Rattle.sr_model.specs.Tokens.{spelled_from}
 use Rattle.sr_scan.specs.Lexeme.{gap_at}
 use Rattle.sr_scan.specs.Machine.{between, texts}
-use Rattle.sr_scan.specs.Left.{machine_left, texts_left}
+use Rattle.sr_scan.specs.Left.{machine_left, texts_left, GivesToken}
 use Rattle.sr_scan.proofs.TokenLemmas.{machine_from}
 
 pub machine_left_is : (r : Reader) (o : Outside) → machine_left r o ≡ texts_left r o
@@ -16,3 +19,10 @@ machine_left_is r o = at (remaining r o)
     at : (bytes : Option (List ℕ)) → option_map (texts (between (gap_at r.last)) (r.limit - r.taken) r.taken) bytes ≡ option_map (spelled_from r.last (r.limit - r.taken) r.taken) bytes
     at None = refl
     at (Some bytes) = ap Some (machine_from r.last (r.limit - r.taken) r.taken bytes)
+
+-- so what the machine gives is what stands first by the definition
+pub gives_by_machine : (old new : Reader) (before after : Outside) (result : Result Token ScanStop)
+    → GivesToken (machine_left old before) (machine_left new after) result → GivesToken (texts_left old before) (texts_left new after) result
+gives_by_machine old new before after result h =
+    subst (λ (l : Option Texts). GivesToken l (texts_left new after) result) (machine_left_is old before)
+    (subst (λ (l : Option Texts). GivesToken (machine_left old before) l result) (machine_left_is new after) h)

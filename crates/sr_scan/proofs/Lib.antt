@@ -3,3 +3,5 @@ pub mod TextLemmas
 pub mod TokenLemmas
 pub mod RunLemmas
 pub mod LeftLemmas
+pub mod FrontLemmas
+pub mod HandLemmas

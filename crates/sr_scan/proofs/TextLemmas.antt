@@ -30,7 +30,7 @@ texts-over m place [] ne = absurd (ne refl)
 texts-over m place (b ∷ bs) ne = refl
 
 -- the told value of a mapped option
-of_map : {A B : Type 0} (f : A → B) (o : Option A) (y : B) → option_map f o ≡ Some y → (x : A) × (o ≡ Some x) × (y ≡ f x)
+pub of_map : {A B : Type 0} (f : A → B) (o : Option A) (y : B) → option_map f o ≡ Some y → (x : A) × (o ≡ Some x) × (y ≡ f x)
 of_map f None y h = cc
 of_map f (Some x) y h = (x, refl, cc)
 

@@ -2,7 +2,7 @@
 use Rattle.std.specs.Prelude.{◌≡◌, ℕ, ◌-◌, ◌<◌, Option, Some, None, Result, Ok, Err, option_map}
 use Rattle.sr_desk.specs.Outside.{Outside, Rose}
 use Rattle.sr_desk.specs.Reader.{Reader}
-use Rattle.sr_desk.specs.Next.{remaining, Keeps}
+use Rattle.sr_desk.specs.Next.{remaining, Keeps, IsSameReader}
 use Rattle.sr_desk.specs.declared.reader.ReadStop.{ReadStop}
 use Rattle.sr_desk.specs.declared.reader.ReadStop.TheVariants as stop
 use Rattle.sr_scan.specs.declared.lexeme.Lexeme.{Lexeme}
@@ -52,6 +52,12 @@ Begins old new before after (Err stop.Fault) = Unit {0}
 abbrev pub Advances : Reader → Reader → Word → Type 0
 Advances old new End = Unit {0}
 Advances old new w = new.limit - new.taken < old.limit - old.taken
+
+-- a token was taken of the bytes at hand
+pub record TakesToken (old new : Reader) (t : Token) : Type 0 where
+  pub same : IsSameReader old new
+  pub advances : Advances old new t.word
+  pub left : (o : Outside) → StandsFirst (machine_left old o) (machine_left new o) t.place t.word
 
 -- a token was read to its end
 abbrev pub Finishes : Lexeme → Reader → Reader → Outside → Outside → Result Lexeme ReadStop → Type 0

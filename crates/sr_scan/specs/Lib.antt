@@ -2,3 +2,4 @@ pub mod Lexeme
 pub mod Machine
 pub mod Left
 pub mod Laws
+pub mod Front

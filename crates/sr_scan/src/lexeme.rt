@@ -8,7 +8,7 @@ use sr_model::Word;
 
 /// A token so far.
 #[derive(Clone, Copy, Debug, PartialEq, Eq)]
-pub enum Lexeme {
+pub(crate) enum Lexeme {
     Sign,
     Digits { negative: bool, size: u64 },
     Malformed,
@@ -23,7 +23,7 @@ pub enum Lexeme {
 
 /// What came before the next token.
 #[derive(Clone, Copy, Debug, PartialEq, Eq)]
-pub enum Gap {
+pub(crate) enum Gap {
     Line,
     Words,
     Comment,
@@ -35,7 +35,7 @@ pub(crate) fn is_white(byte: u8) -> bool
     (9 <= byte && byte <= 13) || byte == 32
 }
 
-fn is_digit(byte: u8) -> bool
+pub(crate) fn is_digit(byte: u8) -> bool
     ensures { result ≡ is_digit byte }
 {
     48 <= byte && byte <= 57
@@ -67,7 +67,7 @@ fn number_of(negative: bool, size: u64) -> Result<Word, TextKind>
 
 impl Lexeme {
     /// The lexeme of a token's first byte.
-    pub fn begin(byte: u8) -> Lexeme
+    pub(crate) fn begin(byte: u8) -> Lexeme
         ensures { result ≡ begun byte }
     {
         if is_digit(byte) {
@@ -87,7 +87,7 @@ impl Lexeme {
     }
 
     /// The lexeme with one more byte.
-    pub fn with(self, byte: u8) -> Lexeme
+    pub(crate) fn with(self, byte: u8) -> Lexeme
         ensures { result ≡ extended self byte }
     {
         match self {
@@ -131,7 +131,7 @@ impl Lexeme {
     }
 
     /// What a whole token says.
-    pub fn word(self) -> Result<Word, TextKind>
+    pub(crate) fn word(self) -> Result<Word, TextKind>
         ensures { result ≡ word_of self }
     {
         match self {
@@ -148,7 +148,7 @@ impl Lexeme {
 
 impl Gap {
     /// The gap behind this byte.
-    pub fn at(last: Option<u8>) -> Gap
+    pub(crate) fn at(last: Option<u8>) -> Gap
         ensures { result ≡ gap_at last }
     {
         match last {
@@ -158,7 +158,7 @@ impl Gap {
     }
 
     /// The gap after one more byte, or none where the byte begins a token.
-    pub fn after(self, byte: u8) -> Option<Gap>
+    pub(crate) fn after(self, byte: u8) -> Option<Gap>
         ensures { result ≡ gap_after self byte }
     {
         match self {

@@ -1,13 +1,14 @@
 // Tokens of text, read one byte at a time.
-ghost use Rattle.std.specs.Prelude.{◌≡◌, ◌<◌, ◌-◌, true, IsTrue, IfOk};
+ghost use Rattle.std.specs.Prelude.{◌≡◌, ◌<◌, ◌-◌, true, IsTrue, IfOk, IfSome, IfNone};
 ghost use Rattle.sr_desk.specs.Outside.{OnlyReads};
 ghost use Rattle.sr_desk.specs.Next.{HasFaultCause, IsSameReader};
 ghost use Rattle.sr_scan.specs.Machine.{within};
 ghost use Rattle.sr_scan.specs.Lexeme.{begun};
-ghost use Rattle.sr_scan.specs.Left.{texts_in, texts_left, machine_left, stop_of, GivesToken, HasScanCause, Begins, Finishes, Advances};
+ghost use Rattle.sr_scan.specs.Left.{texts_in, texts_left, machine_left, stop_of, GivesToken, HasScanCause, Begins, Finishes, Advances, TakesToken};
 
-use crate::lexeme::is_white;
-use crate::{Gap, Lexeme, ScanStop};
+use crate::ScanStop;
+use crate::front::{blanks, front};
+use crate::lexeme::{Gap, Lexeme, is_white};
 use sr_desk::{ByteReader, Desk, ReadStop};
 use sr_model::{Token, Word};
 
@@ -102,6 +103,23 @@ fn machine_item<D: Desk>(reader: &mut ByteReader, desk: &mut D) -> Result<Token,
     }
 }
 
+/// The next token, where it is at hand with the byte that ends it, and a number or `d`.
+#[inline]
+fn at_hand(reader: &mut ByteReader) -> Option<Token>
+    ensures some { IfSome result (λ t. TakesToken reader.old reader.new t) }
+    ensures none { IfNone result (reader.new ≡ reader.old) }
+{
+    let bytes = reader.buffered();
+    let start = blanks(bytes);
+    let leading = front(&bytes[start..])?;
+    let place = reader.place() + start as u64;
+    reader.skip(start + leading.len + 1);
+    Some(Token {
+        place,
+        word: leading.word,
+    })
+}
+
 /// The next token of text.
 pub fn text_item<D: Desk>(reader: &mut ByteReader, desk: &mut D) -> Result<Token, ScanStop>
     requires { IsTrue ((D.outside desk.old).slot reader.old.slot).reads }
@@ -111,5 +129,8 @@ pub fn text_item<D: Desk>(reader: &mut ByteReader, desk: &mut D) -> Result<Token
     ensures only { OnlyReads reader.old.slot (D.outside desk.old) (D.outside desk.new) }
     ensures cause { HasScanCause reader.old.slot (D.outside desk.old) (D.outside desk.new) result }
 {
-    machine_item(reader, desk)
+    match at_hand(reader) {
+        Some(token) => Ok(token),
+        None => machine_item(reader, desk),
+    }
 }

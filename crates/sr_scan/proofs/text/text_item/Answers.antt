@@ -1,10 +1,13 @@
-use Rattle.std.proofs.Common.{Option, subst}
-use Rattle.sr_model.specs.Texts.{Texts}
-use Rattle.sr_scan.specs.Left.{GivesToken, texts_left, machine_left}
-use Rattle.sr_scan.proofs.LeftLemmas.{machine_left_is}
+use Rattle.std.proofs.Common.{Ok}
+use Rattle.sr_scan.proofs.LeftLemmas.{gives_by_machine}
 use Rattle.sr_scan.proofs.text.text_item.Goals as goal
 
-pub returns-clause-token : goal.returns-clause-token
-returns-clause-token g c =
-    subst (λ (old : Option Texts). GivesToken old (texts_left c.machine_item.new.reader (g.D.Desk.outside c.machine_item.new.desk)) c.machine_item.result) (machine_left_is c.args.reader.now (g.D.Desk.outside c.args.desk.now))
-    (subst (λ (new : Option Texts). GivesToken (machine_left c.args.reader.now (g.D.Desk.outside c.args.desk.now)) new c.machine_item.result) (machine_left_is c.machine_item.new.reader (g.D.Desk.outside c.machine_item.new.desk)) c.machine_item.ensures.token)
+pub returns-in-None-clause-token : goal.returns-in-None-clause-token
+returns-in-None-clause-token g c =
+    gives_by_machine c.args.reader.now c.machine_item.new.reader (g.D.Desk.outside c.args.desk.now) (g.D.Desk.outside c.machine_item.new.desk) c.machine_item.result
+    (rw c.in-None.ensures.none at c.machine_item.ensures.token)
+
+pub returns-in-Some-clause-token : goal.returns-in-Some-clause-token
+returns-in-Some-clause-token g c =
+    gives_by_machine c.args.reader.now c.at_hand.new.reader (g.D.Desk.outside c.args.desk.now) (g.D.Desk.outside c.args.desk.now) (Ok c.in-Some.token)
+    (c.in-Some.ensures.some.left (g.D.Desk.outside c.args.desk.now))
