@@ -5,3 +5,4 @@ pub mod RunLemmas
 pub mod LeftLemmas
 pub mod FrontLemmas
 pub mod HandLemmas
+pub mod NumberLemmas
