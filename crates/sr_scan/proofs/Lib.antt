@@ -6,3 +6,5 @@ pub mod LeftLemmas
 pub mod FrontLemmas
 pub mod HandLemmas
 pub mod NumberLemmas
+pub mod BinaryLemmas
+pub mod ValueLemmas

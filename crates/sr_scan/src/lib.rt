@@ -1,13 +1,16 @@
 //! Tokens of text.
 #![tactic(auto)]
 
+mod binary;
 mod front;
 mod laws;
 mod lexeme;
 mod text;
 mod token;
+mod value;
 mod write;
 
+pub use binary::binary_item;
 pub use laws::machine_spells;
 pub use text::text_item;
 pub use token::ScanStop;

@@ -56,7 +56,7 @@ fn finish<D: Desk>(reader: &mut ByteReader, desk: &mut D, first: Lexeme) -> Resu
     }
 }
 
-fn stopped(stop: ReadStop) -> ScanStop
+pub(crate) fn stopped(stop: ReadStop) -> ScanStop
     ensures { result ≡ stop_of stop }
 {
     match stop {

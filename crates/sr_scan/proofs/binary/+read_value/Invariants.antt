@@ -1,0 +1,9 @@
+use Rattle.std.proofs.Common.{◌≡◌, ◌<◌, ◌≤◌, ◌^◌, IsTrue, IfOk, ℕ, ◌+◌, ◌-◌, ◌*◌, length}
+use Rattle.sr_desk.specs.Outside.{OnlyReads}
+use Rattle.sr_desk.specs.Next.{IsSameReader}
+use Rattle.sr_scan.specs.BinaryLeft.{GivesValue, HasValueCause}
+use Rattle.sr_scan.proofs.binary.+read_value.Given as goal
+
+-- proposed from what the function passes where it calls itself
+abbrev pub decreases-read_value : goal.decreases-read_value
+decreases-read_value g l = l.most
