@@ -68,3 +68,17 @@ abbrev pub token_at : Bool → ℕ → ℕ → List ℕ → TokenRead
 token_at true room place bytes = item_at room place bytes
 token_at false room place [] = reads (record { place = place; word = word.End }) []
 token_at false room place (b ∷ bs) = number_at place (place + length (b ∷ bs)) (value_at 10 room (b ∷ bs))
+
+-- the value that spells a number
+abbrev pub value_of : ℤ → ℕ
+value_of (pos x) = 2 * x
+value_of (negsuc n) = 2 * (n + 1) + 1
+
+-- the shortest spelling of a value, with at most so many bytes before the last
+unfoldable pub spelled_value : ℕ → ℕ → List ℕ
+spelled_value zero v = v ∷ []
+spelled_value (suc more) v = if nat_lt v 128 then v ∷ [] else (128 + v % 128) ∷ spelled_value more (v / 128)
+
+-- the shortest spelling of a number whose value has 64 bits
+abbrev pub number_bytes : ℤ → List ℕ
+number_bytes z = spelled_value 9 (value_of z)

@@ -14,4 +14,4 @@ pub use binary::binary_item;
 pub use laws::machine_spells;
 pub use text::text_item;
 pub use token::ScanStop;
-pub use write::put_number_text;
+pub use write::{put_number_binary, put_number_text};
