@@ -29,7 +29,7 @@ abbrev pub IsOpen : Gap → Type 0
 IsOpen Comment = ⊥
 IsOpen g = Unit {0}
 
-open-at : (last : Option ℕ) → IsOpen (gap_at last)
+pub open-at : (last : Option ℕ) → IsOpen (gap_at last)
 open-at None = tt
 open-at (Some b) = at (b == 10) refl
   where

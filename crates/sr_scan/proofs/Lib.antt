@@ -8,3 +8,4 @@ pub mod HandLemmas
 pub mod NumberLemmas
 pub mod BinaryLemmas
 pub mod ValueLemmas
+pub mod AgainLemmas

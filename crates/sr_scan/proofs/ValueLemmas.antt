@@ -56,7 +56,7 @@ leads-value bytes last at v ends none small spelled =
     let all : last + 1 - 0 ≡ last + 1 = omega arith in
     record { some = omega arith; within = omega arith; small = small; spells = λ room rest fits. rw all at (whole room rest (omega (arith, simp length-take at fits))) }
 
-token-number : (room place : ℕ) (bytes : List ℕ) → 0 < length bytes → token_at false room place bytes ≡ number_at place (place + length bytes) (value_at 10 room bytes)
+pub token-number : (room place : ℕ) (bytes : List ℕ) → 0 < length bytes → token_at false room place bytes ≡ number_at place (place + length bytes) (value_at 10 room bytes)
 token-number room place [] some = absurd (omega arith)
 token-number room place (b ∷ bs) some = refl
 
