@@ -1,5 +1,5 @@
 -- What is written is read again.
-use Rattle.std.proofs.Common.{◌≡◌, ◌≢◌, ◌∙◌, ℕ, zero, suc, ◌+◌, ◌-◌, ◌*◌, ◌/◌, ◌%◌, ◌^◌, ◌<◌, ◌≤◌, ◌==◌, ◌⊎◌, inl, inr, Bool, true, false, refl, sym, ap, subst, List, [], ◌∷◌, ◌++◌, length, Option, Some, Ok, arith, length-append}
+use Rattle.std.proofs.Common.{◌≡◌, ◌≢◌, ◌∙◌, ℕ, zero, suc, ◌+◌, ◌-◌, ◌*◌, ◌/◌, ◌%◌, ◌^◌, ◌<◌, ◌≤◌, ◌==◌, ◌⊎◌, inl, inr, Bool, true, false, refl, sym, ap, List, [], ◌∷◌, ◌++◌, length, Option, Some, Ok, arith, length-append}
 use Rattle.std.specs.Prelude.{ℤ, pos, negsuc, unsigned_abs, nat_lt}
 use Rattle.std.specs.List.{list_all}
 use Rattle.std.specs.Fmt.{decimal, signed_decimal}
@@ -12,13 +12,12 @@ use Rattle.sr_model.specs.declared.tokens.Word.{Word}
 use Rattle.sr_model.specs.declared.tokens.Word.TheVariants.{Number}
 use Rattle.sr_model.specs.Words as words
 use Rattle.sr_model.specs.Words.{is_white, is_digit, value_after, said_by}
-use Rattle.sr_model.specs.Texts.{Texts, next}
+use Rattle.sr_model.specs.Texts.{next}
 use Rattle.sr_model.specs.Tokens.{spelled_from}
 use Rattle.sr_scan.specs.Lexeme.{gap_at}
-use Rattle.sr_scan.specs.Machine.{texts, between}
 use Rattle.sr_scan.specs.Front.{is_dark}
 use Rattle.sr_scan.specs.Binary.{ValueRead, value, long, ends, limited, plus, value_at, value_of, value_word, number_by, number_at, number_bytes, spelled_value, reads, token_at}
-use Rattle.sr_scan.proofs.FrontLemmas.{value-push, number-fits, digits-dark, digit-below}
+use Rattle.sr_scan.proofs.FrontLemmas.{value-push, number-fits, digits-dark}
 use Rattle.sr_scan.proofs.HandLemmas.{front_token, open-at}
 use Rattle.sr_scan.proofs.NumberLemmas.{spelled_value-small, spelled_value-large}
 use Rattle.sr_scan.proofs.TokenLemmas.{machine_from}
@@ -28,7 +27,7 @@ use Rattle.sr_scan.proofs.ValueLemmas.{token-number}
 pub token-first : (before : Option ℕ) (room place b : ℕ) (bs : List ℕ) (w : ℕ) (rest : List ℕ) (word : Word)
     → list_all is_dark (b ∷ bs) ≡ true → b ≢ 99 → said_by (b ∷ bs) ≡ Ok word → is_white w ≡ true → length (b ∷ bs) + 1 ≤ room
     → spelled_from before room place (b ∷ (bs ++ w ∷ rest))
-        ≡ next (record { place = place; word = word }) (spelled_from (Some w) (room - (length (b ∷ bs) + 1)) (place + (length (b ∷ bs) + 1)) rest)
+    ≡ next (record { place = place; word = word }) (spelled_from (Some w) (room - (length (b ∷ bs) + 1)) (place + (length (b ∷ bs) + 1)) rest)
 token-first before room place b bs w rest word dark ne says white le =
     let n : ℕ = length (b ∷ bs) + 1 in
     let a : 0 + length (b ∷ bs) + 1 ≡ n = omega arith in

@@ -1,5 +1,5 @@
 -- What a byte adds to a value.
-use Rattle.std.proofs.Common.{◌≡◌, ◌≢◌, ◌∙◌, ℕ, zero, suc, ◌+◌, ◌-◌, ◌*◌, ◌^◌, ◌<◌, ◌≤◌, Bool, true, false, refl, sym, ap, length, List, [], ◌∷◌, Option, Some, None, Ok, Err, arith}
+use Rattle.std.proofs.Common.{◌≡◌, ◌≢◌, ◌∙◌, ℕ, zero, suc, ◌+◌, ◌-◌, ◌*◌, ◌^◌, ◌<◌, ◌≤◌, true, false, refl, ap, length, List, [], ◌∷◌, Some, Ok, Err, arith}
 use Rattle.std.specs.Prelude.{nat_lt}
 use Rattle.std.proofs.Math.Nat.{pow-suc, one-le-pow, pow-le-pow_right}
 use Rattle.std.proofs.lemmas.Bool.Decides.{nat_tests}
@@ -8,8 +8,8 @@ use Rattle.sr_desk.specs.Reader.{Reader}
 use Rattle.sr_desk.specs.Next.{remaining, TakesByte, MeetsEnd, MeetsLimit}
 use Rattle.sr_scan.specs.declared.binary.ValueStop.{ValueStop}
 use Rattle.sr_scan.specs.declared.binary.ValueStop.TheVariants.{Long, Ends, Limit, Fault}
-use Rattle.sr_scan.specs.Binary.{ValueRead, value, long, ends, limited, plus, value_at}
-use Rattle.sr_scan.specs.BinaryLeft.{GivesValue, ReadsValue, EndsValue}
+use Rattle.sr_scan.specs.Binary.{value, ends, limited, plus, value_at}
+use Rattle.sr_scan.specs.BinaryLeft.{GivesValue}
 
 pub value_at-small : (most : ℕ) (room : ℕ) (b : ℕ) (bs : List ℕ) → most ≢ 0 → 0 < room → b < 128 → value_at most room (b ∷ bs) ≡ value b bs
 value_at-small zero room b bs m r lt = absurd (m refl)

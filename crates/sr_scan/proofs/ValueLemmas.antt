@@ -1,16 +1,14 @@
 -- A value that stands whole in some bytes, from its last byte.
-use Rattle.std.proofs.Common.{◌≡◌, ◌≢◌, ◌∙◌, ℕ, suc, ◌+◌, ◌-◌, ◌*◌, ◌<◌, ◌≤◌, ◌^◌, length-take, refl, sym, ap, subst, List, [], ◌∷◌, ◌++◌, length, take, drop, get_or, arith, ◌/◌, ◌%◌, ◌==◌, Bool, true, false, Ok, length-append, Option, Some}
+use Rattle.std.proofs.Common.{◌≡◌, ◌∙◌, ℕ, suc, ◌+◌, ◌-◌, ◌*◌, ◌<◌, ◌≤◌, ◌^◌, length-take, refl, sym, ap, subst, List, [], ◌∷◌, ◌++◌, length, take, drop, get_or, arith, ◌/◌, ◌%◌, ◌==◌, Bool, true, false, Ok, length-append}
 use Rattle.std.specs.Prelude.{nat_lt, pos, negsuc}
-use Rattle.sr_desk.specs.Outside.{Outside}
 use Rattle.sr_desk.specs.Reader.{Reader, buffered, skipped}
-use Rattle.sr_desk.specs.Next.{remaining}
 use Rattle.sr_desk.proofs.ReaderLemmas.{skipped-remaining}
 use Rattle.sr_model.specs.declared.tokens.Word.{Word}
 use Rattle.sr_model.specs.declared.tokens.Word.TheVariants as word
 use Rattle.sr_scan.specs.Front.{is_end}
 use Rattle.sr_scan.proofs.HandLemmas.{advances}
 use Rattle.std.proofs.Math.Seq.{drop-cons}
-use Rattle.sr_scan.specs.Binary.{ValueRead, value, plus, value_at, value_word, number_by, number_at, token_at}
+use Rattle.sr_scan.specs.Binary.{value, plus, value_at, value_word, number_by, number_at, token_at}
 use Rattle.sr_scan.specs.BinaryLeft.{EndsAt, LeadsValue, TakesNumber}
 use Rattle.sr_scan.proofs.BinaryLemmas.{value_at-small, value_at-large}
 

@@ -1,5 +1,5 @@
 -- The binary tokens that a reader gives.
-use Rattle.std.specs.Prelude.{◌≡◌, ℕ, ◌+◌, ◌-◌, ◌<◌, ◌≤◌, ◌^◌, Bool, false, List, [], ◌++◌, length, take, Option, Some, Result, Ok, Err, slice_index, ◌==◌, if◌then◌else◌}
+use Rattle.std.specs.Prelude.{◌≡◌, ℕ, ◌+◌, ◌-◌, ◌<◌, ◌≤◌, ◌^◌, Bool, false, List, [], ◌++◌, length, take, Some, Result, Ok, Err, slice_index, ◌==◌, if◌then◌else◌}
 use Rattle.sr_desk.specs.Outside.{Outside, Rose}
 use Rattle.sr_desk.specs.Reader.{Reader}
 use Rattle.sr_desk.specs.Next.{remaining, IsSameReader}

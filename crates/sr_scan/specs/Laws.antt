@@ -21,7 +21,7 @@ abbrev pub TokenStandsFirst : Type 0
 TokenStandsFirst = (before : Option ℕ) (room place b : ℕ) (bs : List ℕ) (w : ℕ) (rest : List ℕ) (word : Word)
     → list_all is_dark (b ∷ bs) ≡ true → b ≢ 99 → said_by (b ∷ bs) ≡ Ok word → is_white w ≡ true → length (b ∷ bs) + 1 ≤ room
     → spelled_from before room place (b ∷ (bs ++ w ∷ rest))
-        ≡ next (record { place = place; word = word }) (spelled_from (Some w) (room - (length (b ∷ bs) + 1)) (place + (length (b ∷ bs) + 1)) rest)
+    ≡ next (record { place = place; word = word }) (spelled_from (Some w) (room - (length (b ∷ bs) + 1)) (place + (length (b ∷ bs) + 1)) rest)
 
 -- the digits of a number are one token, and say the number
 abbrev pub TextNumbersReadAgain : Type 0

@@ -1,4 +1,4 @@
-//! Tokens of text.
+//! Tokens and numbers, of text and of binary files, as they are read and as they are written.
 #![tactic(auto)]
 
 mod binary;

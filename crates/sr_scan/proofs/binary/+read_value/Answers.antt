@@ -1,5 +1,4 @@
-use Rattle.std.proofs.Common.{rules, ◌≡◌, ◌≢◌, ◌<◌, ◌≤◌, ◌^◌, ◌+◌, ◌-◌, ◌*◌, ℕ, sym, ◌∙◌, arith}
-use Rattle.sr_desk.specs.Next.{TakesByte}
+use Rattle.std.proofs.Common.{rules, ◌<◌, ◌-◌, arith}
 use Rattle.sr_scan.proofs.BinaryLemmas.{value-small, value-ok, value-err, below-first, below-more, ten-wide}
 use Rattle.sr_scan.proofs.binary.+read_value.Goals as goal
 

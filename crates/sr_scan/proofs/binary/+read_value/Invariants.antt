@@ -1,7 +1,3 @@
-use Rattle.std.proofs.Common.{◌≡◌, ◌<◌, ◌≤◌, ◌^◌, IsTrue, IfOk, ℕ, ◌+◌, ◌-◌, ◌*◌, length}
-use Rattle.sr_desk.specs.Outside.{OnlyReads}
-use Rattle.sr_desk.specs.Next.{IsSameReader}
-use Rattle.sr_scan.specs.BinaryLeft.{GivesValue, HasValueCause}
 use Rattle.sr_scan.proofs.binary.+read_value.Given as goal
 
 -- proposed from what the function passes where it calls itself

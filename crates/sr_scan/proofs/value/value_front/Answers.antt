@@ -1,4 +1,4 @@
-use Rattle.std.proofs.Common.{◌≡◌, ◌≤◌, ◌<◌, ◌-◌, ◌∙◌, ℕ, sym, arith, rules, get_or, length, length-take}
+use Rattle.std.proofs.Common.{◌<◌, ◌-◌, arith, rules, get_or}
 use Rattle.sr_scan.proofs.ValueLemmas.{spelled_last, spelled_more, leads-value}
 use Rattle.sr_scan.proofs.value.value_front.Goals as goal
 

@@ -1,4 +1,4 @@
-use Rattle.std.proofs.Common.{◌≤◌, ◌<◌, ◌-◌, ◌+◌, ◌^◌, take, drop, ℕ, List, ◌≡◌, ◌++◌, length}
+use Rattle.std.proofs.Common.{◌≤◌, ◌<◌, ◌-◌, ◌+◌, ◌^◌, take, drop, ℕ, List, ◌≡◌, ◌++◌}
 use Rattle.sr_scan.specs.Binary.{value, value_at}
 use Rattle.sr_scan.proofs.value.value_front.Given as goal
 

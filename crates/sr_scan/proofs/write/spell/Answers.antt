@@ -1,4 +1,4 @@
-use Rattle.std.proofs.Common.{◌≡◌, ℕ, length, rules, arith}
+use Rattle.std.proofs.Common.{◌≡◌, length, rules, arith}
 use Rattle.sr_scan.proofs.NumberLemmas.{spell_more, spell_last}
 use Rattle.sr_scan.proofs.write.spell.Goals as goal
 

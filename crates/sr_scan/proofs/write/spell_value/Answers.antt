@@ -1,4 +1,4 @@
-use Rattle.std.proofs.Common.{◌≡◌, ℕ, length, rules}
+use Rattle.std.proofs.Common.{◌≡◌, length, rules}
 use Rattle.sr_scan.proofs.NumberLemmas.{bytes_more, bytes_last}
 use Rattle.sr_scan.proofs.write.spell_value.Goals as goal
 
