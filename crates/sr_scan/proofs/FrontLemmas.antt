@@ -9,7 +9,7 @@ use Rattle.sr_model.specs.Words.{is_white, is_digit, value_after, signed, number
 use Rattle.sr_model.specs.declared.tokens.Word.TheVariants as word
 use Rattle.sr_scan.specs.Front.{is_dark, ends_at, Leads}
 
-value-push : (n : ℕ) (xs : List ℕ) (b : ℕ) → value_after n (xs ++ b ∷ []) ≡ 10 * value_after n xs + (b - 48)
+pub value-push : (n : ℕ) (xs : List ℕ) (b : ℕ) → value_after n (xs ++ b ∷ []) ≡ 10 * value_after n xs + (b - 48)
 value-push n [] b = refl
 value-push n (x ∷ xs) b = value-push (10 * n + (x - 48)) xs b
 
@@ -24,7 +24,7 @@ digits_more bytes i d lt h e = list_all_more is_digit bytes i d lt ∙ rw (h, e)
 digit-dark : (b : ℕ) → is_digit b ≡ true → is_dark b ≡ true
 digit-dark b h = grind (arith, nat_tests)
 
-digits-dark : (ds : List ℕ) → list_all is_digit ds ≡ true → list_all is_dark ds ≡ true
+pub digits-dark : (ds : List ℕ) → list_all is_digit ds ≡ true → list_all is_dark ds ≡ true
 digits-dark [] h = refl
 digits-dark (d ∷ ds) h = go (is_digit d) refl (digits-dark ds)
   where
@@ -33,7 +33,7 @@ digits-dark (d ∷ ds) h = go (is_digit d) refl (digits-dark ds)
     go false t again = let bad = rw t at h in cc
 
 -- a value of digits that fits is a number
-number-fits : (negative : Bool) (ds : List ℕ) (size : ℕ) → 0 < length ds → list_all is_digit ds ≡ true → size ≡ value_after 0 ds → size < 2 ^ 63 → (negative ≡ true → 0 < size)
+pub number-fits : (negative : Bool) (ds : List ℕ) (size : ℕ) → 0 < length ds → list_all is_digit ds ≡ true → size ≡ value_after 0 ds → size < 2 ^ 63 → (negative ≡ true → 0 < size)
     → number_by negative ds ≡ Ok (word.Number (signed negative size))
 number-fits negative [] size some h e lt pos = absurd (omega arith)
 number-fits negative (d ∷ ds) size some h e lt pos = rw h (rw (← e) (fits negative pos))

@@ -29,7 +29,7 @@ abbrev pub IsOpen : Gap → Type 0
 IsOpen Comment = ⊥
 IsOpen g = Unit {0}
 
-open-at : (last : Option ℕ) → IsOpen (gap_at last)
+pub open-at : (last : Option ℕ) → IsOpen (gap_at last)
 open-at None = tt
 open-at (Some b) = at (b == 10) refl
   where
@@ -177,7 +177,7 @@ stands old new place word.Percent e h = h
 stands old new place word.Other e h = h
 stands old new place word.End e h = cc
 
-advances : (old new : Reader) (w : Word) → is_end w ≡ false → new.limit - new.taken < old.limit - old.taken → Advances old new w
+pub advances : (old new : Reader) (w : Word) → is_end w ≡ false → new.limit - new.taken < old.limit - old.taken → Advances old new w
 advances old new (word.Number n) e h = h
 advances old new word.Add e h = h
 advances old new word.Del e h = h

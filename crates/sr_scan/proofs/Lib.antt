@@ -5,3 +5,7 @@ pub mod RunLemmas
 pub mod LeftLemmas
 pub mod FrontLemmas
 pub mod HandLemmas
+pub mod NumberLemmas
+pub mod BinaryLemmas
+pub mod ValueLemmas
+pub mod AgainLemmas

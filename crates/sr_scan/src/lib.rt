@@ -1,12 +1,17 @@
-//! Tokens of text.
+//! Tokens and numbers, of text and of binary files, as they are read and as they are written.
 #![tactic(auto)]
 
+mod binary;
 mod front;
 mod laws;
 mod lexeme;
 mod text;
 mod token;
+mod value;
+mod write;
 
+pub use binary::binary_item;
 pub use laws::machine_spells;
 pub use text::text_item;
 pub use token::ScanStop;
+pub use write::{put_number_binary, put_number_text};

@@ -1,4 +1,7 @@
-// Tokens of text, read one byte at a time.
+// Tokens of text.
+//
+// A number or `d` that is at hand with the byte that ends it is taken in one go. Whatever else is
+// read byte by byte by a small machine: a gap between tokens, and a token so far.
 ghost use Rattle.std.specs.Prelude.{◌≡◌, ◌<◌, ◌-◌, true, IsTrue, IfOk, IfSome, IfNone};
 ghost use Rattle.sr_desk.specs.Outside.{OnlyReads};
 ghost use Rattle.sr_desk.specs.Next.{HasFaultCause, IsSameReader};
@@ -56,7 +59,7 @@ fn finish<D: Desk>(reader: &mut ByteReader, desk: &mut D, first: Lexeme) -> Resu
     }
 }
 
-fn stopped(stop: ReadStop) -> ScanStop
+pub(crate) fn stopped(stop: ReadStop) -> ScanStop
     ensures { result ≡ stop_of stop }
 {
     match stop {
@@ -120,7 +123,21 @@ fn at_hand(reader: &mut ByteReader) -> Option<Token>
     })
 }
 
-/// The next token of text.
+/// The next token of a text file.
+///
+/// White space is the bytes 9 to 13 and 32, and a token is a longest run of other bytes. Where the
+/// first token of a line begins with `c`, the line is a comment and has no tokens. A token that
+/// begins with a digit or `-` has to be a number: an optional `-` and digits. `d`, `p`, `cnf` and
+/// `%` are words of their own, as DIMACS and DRAT write them, and any other is [`Word::Other`]. The
+/// end, where no token is left, is [`Word::End`]. The place is that of the token's first byte, and
+/// for the end the number of bytes of the file.
+///
+/// # Errors
+///
+/// [`ScanStop::Text`] with the place of the token: `BadNumber` for one that begins like a number and
+/// is none, as `-0`, and `TooWide` for a number of a size above 2^63 - 1. [`ScanStop::Limit`]
+/// exactly where a byte past the reader's limit is needed and there is one. [`ScanStop::Fault`] only
+/// where a read failed. After an error the reader isn't used again.
 pub fn text_item<D: Desk>(reader: &mut ByteReader, desk: &mut D) -> Result<Token, ScanStop>
     requires { IsTrue ((D.outside desk.old).slot reader.old.slot).reads }
     ensures advances { IfOk result (λ t. Advances reader.old reader.new t.word) }

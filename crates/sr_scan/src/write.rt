@@ -1,0 +1,106 @@
+// Numbers as they are written.
+//
+// A number is spelled into a small array, from its last digit, and added to the output at once.
+ghost use Rattle.std.specs.Prelude.{◌≡◌, ◌++◌, ◌+◌, ◌*◌, ◌<◌, ◌≤◌, ◌^◌, drop, take, unsigned_abs, OnOk, OnErr};
+ghost use Rattle.std.specs.Fmt.{decimal, signed_decimal};
+ghost use Rattle.sr_scan.specs.Binary.{value_of, spelled_value, number_bytes};
+
+use sr_base::{ByteList, NoMemory};
+
+/// Adds all the bytes at the end, or none.
+fn append(out: &mut ByteList, bytes: &[u8]) -> Result<(), NoMemory>
+    ensures ok { OnOk result (out.new ≡ out.old ++ bytes.now) }
+    ensures err { OnErr result (out.new ≡ out.old) }
+{
+    let before = out.as_slice().len();
+    for byte in bytes {
+        if out.push(*byte).is_err() {
+            out.cut(before);
+            return Err(NoMemory);
+        }
+    }
+    Ok(())
+}
+
+/// Spells a size at the end of an array, and says where it begins; there is room for a sign before it.
+fn spell(text: &mut [u8; 20], size: u64) -> usize
+    requires { size ≤ 2 ^ 63 }
+    ensures low { 1 ≤ result }
+    ensures high { result ≤ 20 }
+    ensures digits { drop result text.new ≡ decimal size }
+{
+    let mut at = 20;
+    let mut left = size;
+    while left >= 10 {
+        at -= 1;
+        text[at] = 48 + (left % 10) as u8;
+        left /= 10;
+    }
+    at -= 1;
+    text[at] = 48 + left as u8;
+    at
+}
+
+/// Writes a number in decimal digits without leading zeros, behind `-` where it is negative.
+///
+/// # Errors
+///
+/// [`NoMemory`], and then nothing was written.
+pub fn put_number_text(out: &mut ByteList, value: i64) -> Result<(), NoMemory>
+    ensures ok { OnOk result (out.new ≡ out.old ++ signed_decimal value) }
+    ensures err { OnErr result (out.new ≡ out.old) }
+{
+    let mut text = [0; 20];
+    let at = spell(&mut text, value.unsigned_abs());
+    if value < 0 {
+        text[at - 1] = b'-';
+        return append(out, &text[at - 1..]);
+    }
+    append(out, &text[at..])
+}
+
+/// The value that spells a number: twice its size, and one more where it is negative.
+fn value_of(value: i64) -> u64
+    requires { unsigned_abs value < 2 ^ 63 }
+    ensures value { result ≡ value_of value }
+    ensures bound { result ≤ 2 * unsigned_abs value + 1 }
+{
+    if value < 0 {
+        2 * value.unsigned_abs() + 1
+    } else {
+        2 * value.unsigned_abs()
+    }
+}
+
+/// Spells a value at the front of an array, and says in how many bytes.
+fn spell_value(bytes: &mut [u8; 5], value: u64) -> usize
+    requires { value < 2 ^ 32 }
+    ensures high { result ≤ 5 }
+    ensures bytes { take result bytes.new ≡ spelled_value 9 value }
+{
+    let mut len = 0;
+    let mut left = value;
+    while left >= 128 {
+        bytes[len] = 128 + (left % 128) as u8;
+        len += 1;
+        left /= 128;
+    }
+    bytes[len] = left as u8;
+    len + 1
+}
+
+/// Writes a number as a binary file spells it, in as few bytes as it takes: seven bits in each, the
+/// least first, and the top bit set on all but the last.
+///
+/// # Errors
+///
+/// [`NoMemory`], and then nothing was written.
+pub fn put_number_binary(out: &mut ByteList, value: i64) -> Result<(), NoMemory>
+    requires { unsigned_abs value ≤ 2147483647 }
+    ensures ok { OnOk result (out.new ≡ out.old ++ number_bytes value) }
+    ensures err { OnErr result (out.new ≡ out.old) }
+{
+    let mut bytes = [0; 5];
+    let len = spell_value(&mut bytes, value_of(value));
+    append(out, &bytes[..len])
+}
