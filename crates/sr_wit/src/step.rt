@@ -43,6 +43,7 @@ impl Step {
     ) -> Option<Step>
         ensures none { IsNone result ↔ LacksPivot clause witness }
         ensures some { IfSome result (λ s. s ≡ step_with id clause witness prefix groups) }
+        ensures pivot { IfSome result HasPivot }
     {
         if let Some(subst) = &witness
             && !is_first(subst.pivot(), &clause)
