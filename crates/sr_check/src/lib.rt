@@ -1,0 +1,6 @@
+//! The checker of proofs by hints.
+//!
+//! It takes the items of a proof one by one, and keeps the clauses that are live and the verdict.
+#![tactic(auto)]
+
+mod pages;
