@@ -3,4 +3,5 @@
 //! It takes the items of a proof one by one, and keeps the clauses that are live and the verdict.
 #![tactic(auto)]
 
+mod marks;
 mod pages;
