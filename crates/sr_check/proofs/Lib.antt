@@ -1,2 +1,4 @@
 pub mod Paging
 pub mod Marking
+pub mod Storing
+pub mod Dropping

@@ -3,5 +3,6 @@
 //! It takes the items of a proof one by one, and keeps the clauses that are live and the verdict.
 #![tactic(auto)]
 
+mod live;
 mod marks;
 mod pages;
