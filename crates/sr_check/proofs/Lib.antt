@@ -2,3 +2,4 @@ pub mod Paging
 pub mod Marking
 pub mod Storing
 pub mod Dropping
+pub mod Following

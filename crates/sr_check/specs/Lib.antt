@@ -1,3 +1,4 @@
 pub mod Pages
 pub mod Trail
 pub mod Storage
+pub mod Ends

@@ -3,6 +3,7 @@
 //! It takes the items of a proof one by one, and keeps the clauses that are live and the verdict.
 #![tactic(auto)]
 
+mod chains;
 mod live;
 mod marks;
 mod pages;
