@@ -7,3 +7,4 @@ mod chains;
 mod live;
 mod marks;
 mod pages;
+mod walk;

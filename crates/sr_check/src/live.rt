@@ -8,17 +8,18 @@ ghost use Rattle.sr_model.specs.Judging.{without, clause_cells, cells_of};
 ghost use Rattle.sr_check.specs.Storage.{with_live};
 
 use crate::pages::Table;
+use crate::walk::Walk;
 use sr_base::{Lit, NoMemory};
 use std::alloc::Global;
 use std::marker::Model;
 
 /// Where the literals of a clause lie.
 #[derive(Clone, Copy)]
-struct Place {
-    start: usize,
-    len: u32,
-    id: u32,
-    live: bool,
+pub struct Place {
+    pub start: usize,
+    pub len: u32,
+    pub id: u32,
+    pub live: bool,
 }
 
 /// The live clauses under their numbers, in the order in which they were added.
@@ -74,6 +75,13 @@ impl LiveClauses {
             return None;
         }
         Some(&self.lits[place.start..place.start + place.len as usize])
+    }
+
+    /// A walk over the clauses in order.
+    pub fn walk(&self) -> Walk<'_>
+        ensures { result ≡ self.now }
+    {
+        Walk::new(&self.lits, &self.places)
     }
 
     /// The cells in which the clauses are held.
