@@ -1,16 +1,16 @@
 -- Lemmas on the storage of the live clauses.
 use Rattle.std.proofs.Common.{◌≡◌, ◌≢◌, ◌⊎◌, inl, inr, ℕ, suc, zero, ◌+◌, ◌-◌, ◌<◌, ◌≤◌, ◌==◌, Bool, true, false, not, cond, ◌||◌, List, [], ◌∷◌, ◌++◌, Option, Some, None, length, get_or, set, take, drop, refl, sym, ◌∙◌, ap, subst, arith}
 use Rattle.std.specs.Prelude.{filter}
-use Rattle.std.proofs.lemmas.List.{append_assoc, append-nil, length-append, length-set, length-take, length-drop, get_or-set_same, get_or-set_other, get_or_default, get_or_append_left, get_or_at, get_or_past, set_at, take-append-le, drop-append-le, take_at, take_all, drop_at}
+use Rattle.std.proofs.lemmas.List.{append_assoc, append-nil, length-append, length-set, length-take, length-drop, get_or-set_same, get_or-set_other, get_or_default, get_or_append_left, get_or_at, get_or_past, set_at, set-set, set-get_or, take_more, drop_more, take-append-le, drop-append-le, take_at, take_all, drop_at}
 use Rattle.std.proofs.lemmas.List.Sums.{sum_by-cons}
 use Rattle.std.proofs.lemmas.Bool.Decides.{nat_tests}
 use Rattle.sr_base.specs.Literal.{Literal}
 use Rattle.sr_model.specs.Assignment.{holds_number}
 use Rattle.sr_model.specs.Chain.{Numbered, clauses, clause_of}
-use Rattle.sr_model.specs.Judging.{without, clause_cells, cells_of}
+use Rattle.sr_model.specs.Judging.{without, first_dead, clause_cells, cells_of}
 use Rattle.sr_check.specs.declared.live.Place.{Place}
 use Rattle.sr_check.specs.Pages.{Paged, entry, Sets, SameEntries}
-use Rattle.sr_check.specs.Storage.{part, live_of, nowhere, place_at, with_live, weight, weights, IsStored}
+use Rattle.sr_check.specs.Storage.{part, live_of, nowhere, place_at, with_live, dead_each, AreLive, AreDropped, weight, weights, IsStored}
 use Rattle.sr_check.proofs.Paging.{by_eq}
 use Rattle.sr_check.proofs.Marking.{by_test}
 
@@ -344,3 +344,58 @@ pub added_view : (lits lits' more : List Literal) (ps qs ps' : List Place) (star
 added_view lits lits' more ps qs ps' start id i from at h e f g =
     let last : ps' ≡ ps ++ place_of start (length more) id true ∷ [] = g ∙ ap (λ x. with_live x i true) f ∙ with_live_last ps (place_of start (length more) id false) (place_of start (length more) id true) i at refl in
     rw (e, last) (live_push lits more ps (place_of start (length more) id true) refl from refl h)
+
+-- numbers that are dropped one after another
+pub dead_push : (table : Paged) (ps : List Place) (ns : List ℕ) (n : ℕ) → dead_each table ps (ns ++ n ∷ []) ≡ with_live (dead_each table ps ns) (entry table n) false
+dead_push table ps [] n = refl
+dead_push table ps (m ∷ ns) n = dead_push table (with_live ps (entry table m) false) ns n
+
+pub live_more : (table : Paged) (ps : List Place) (ns : List ℕ) (n : ℕ) → AreLive table ps ns → (place_at (dead_each table ps ns) (entry table n)).live ≡ true → AreLive table ps (ns ++ n ∷ [])
+live_more table ps [] n h l = (l, tt)
+live_more table ps (m ∷ ns) n h l = (h.0, live_more table (with_live ps (entry table m) false) ns n h.1 l)
+
+pub live_last : (table : Paged) (ps : List Place) (ns : List ℕ) (n : ℕ) → AreLive table ps (ns ++ n ∷ []) → AreLive table ps ns × ((place_at (dead_each table ps ns) (entry table n)).live ≡ true)
+live_last table ps [] n h = (tt, h.0)
+live_last table ps (m ∷ ns) n h = let r = live_last table (with_live ps (entry table m) false) ns n h.1 in ((h.0, r.0), r.1)
+
+pub dropped_more : (table : Paged) (ps qs : List Place) (ns : List ℕ) (i n : ℕ) → i < length ns → n ≡ get_or ns i 0 → AreDropped table ps (take i ns) qs → (place_at qs (entry table n)).live ≡ true
+    → AreDropped table ps (take (i + 1) ns) (with_live qs (entry table n) false)
+dropped_more table ps qs ns i n h is d l =
+    let more : take (i + 1) ns ≡ take i ns ++ n ∷ [] = take_more ns i 0 h ∙ ap (λ x. take i ns ++ x ∷ []) (sym is) in
+    rw more (live_more table ps (take i ns) n d.0 (ap (λ x. (place_at x (entry table n)).live) (sym d.1) ∙ l), ap (λ x. with_live x (entry table n) false) d.1 ∙ sym (dead_push table ps (take i ns) n))
+
+-- a place that was live is said to be dead and then to be live
+pub live_again : (ps : List Place) (i : ℕ) → (place_at ps i).live ≡ true → with_live (with_live ps i false) i true ≡ ps
+live_again ps i l =
+    let dead : Place = record { start = (place_at ps i).start; len = (place_at ps i).len; id = (place_at ps i).id; live = false } in
+    let here : place_at (with_live ps i false) i ≡ dead = get_or-set_same ps i dead nowhere (live_within ps i l) in
+    let again : record { start = (place_at ps i).start; len = (place_at ps i).len; id = (place_at ps i).id; live = true } ≡ place_at ps i =
+    ap (λ (b : Bool). let p : Place = record { start = (place_at ps i).start; len = (place_at ps i).len; id = (place_at ps i).id; live = b } in p) (sym l) in
+    ap (λ (p : Place). set (with_live ps i false) i (record { start = p.start; len = p.len; id = p.id; live = true })) here
+    ∙ set-set ps i dead (record { start = (place_at ps i).start; len = (place_at ps i).len; id = (place_at ps i).id; live = true })
+    ∙ ap (set ps i) again ∙ set-get_or ps i nowhere
+
+-- the step of the loop that revives
+pub revived_more : (table : Paged) (ps : List Place) (ns : List ℕ) (left i n : ℕ) (now next : List Place) → left ≡ i + 1 → left ≤ length ns → n ≡ get_or ns i 0
+    → AreDropped table ps (take left ns) now → next ≡ with_live now (entry table n) true → AreDropped table ps (take i ns) next
+revived_more table ps ns left i n now next e h is d w =
+    let more : take left ns ≡ take i ns ++ n ∷ [] = ap (λ k. take k ns) e ∙ take_more ns i 0 (omega arith) ∙ ap (λ x. take i ns ++ x ∷ []) (sym is) in
+    let last = live_last table ps (take i ns) n (subst (AreLive table ps) more d.0) in
+    let now_is : now ≡ with_live (dead_each table ps (take i ns)) (entry table n) false = d.1 ∙ ap (dead_each table ps) more ∙ dead_push table ps (take i ns) n in
+    (last.0, w ∙ ap (λ x. with_live x (entry table n) true) now_is ∙ live_again (dead_each table ps (take i ns)) (entry table n) last.1)
+
+-- the first number that is dead
+pub first_dead_more : (live : Numbered) (ns : List ℕ) (i n : ℕ) (c : List Literal) (now next : Numbered) → i < length ns → n ≡ get_or ns i 0 → clause_of now n ≡ Some c → next ≡ without (n ∷ []) now
+    → first_dead live ns ≡ first_dead now (drop i ns) → first_dead live ns ≡ first_dead next (drop (i + 1) ns)
+first_dead_more live ns i n c now next h is s w inv =
+    let split : drop i ns ≡ n ∷ drop (i + 1) ns = drop_more ns i 0 h ∙ ap (λ x. x ∷ drop (i + 1) ns) (sym is) in
+    inv ∙ ap (first_dead now) split ∙ rw (s, w, first_dead) refl
+
+pub first_dead_here : (live : Numbered) (ns : List ℕ) (i n : ℕ) (now : Numbered) → i < length ns → n ≡ get_or ns i 0 → clause_of now n ≡ None
+    → first_dead live ns ≡ first_dead now (drop i ns) → Some n ≡ first_dead live ns
+first_dead_here live ns i n now h is s inv =
+    let split : drop i ns ≡ n ∷ drop (i + 1) ns = drop_more ns i 0 h ∙ ap (λ x. x ∷ drop (i + 1) ns) (sym is) in
+    sym (inv ∙ ap (first_dead now) split ∙ rw (s, first_dead) refl)
+
+pub length-with_live : (ps : List Place) (i : ℕ) (b : Bool) → length (with_live ps i b) ≡ length ps
+length-with_live ps i b = length-set ps i (record { start = (place_at ps i).start; len = (place_at ps i).len; id = (place_at ps i).id; live = b })

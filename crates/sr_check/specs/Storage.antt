@@ -34,6 +34,19 @@ taken (Some p) = (p.0, p.1.now) ∷ []
 abbrev pub with_live : List Place → ℕ → Bool → List Place
 with_live ps i b = let p = place_at ps i in slice_set ps i (record { start = p.start; len = p.len; id = p.id; live = b })
 
+-- the places of numbers are said to be dead, one after another
+abbrev pub dead_each : Paged → List Place → List ℕ → List Place
+dead_each table ps [] = ps
+dead_each table ps (n ∷ ns) = dead_each table (with_live ps (entry table n) false) ns
+
+-- each of them was live when its turn came
+abbrev pub AreLive : Paged → List Place → List ℕ → Type 0
+AreLive table ps [] = Unit {0}
+AreLive table ps (n ∷ ns) = ((place_at ps (entry table n)).live ≡ true) × AreLive table (with_live ps (entry table n) false) ns
+
+abbrev pub AreDropped : Paged → List Place → List ℕ → List Place → Type 0
+AreDropped table ps ns qs = AreLive table ps ns × (qs ≡ dead_each table ps ns)
+
 -- the cells of a place
 abbrev pub weight : Place → ℕ
 weight p = cond p.live (p.len + 4) 0

@@ -1,11 +1,13 @@
 // The clauses that are live. The literals of all clauses lie one after another, each clause has a place that says where
 // its literals are, and a table leads from numbers to places. A clause that is dropped keeps its literals and its place,
 // which is only marked as dead.
-ghost use Rattle.std.specs.Prelude.{◌≡◌, ◌+◌, ◌<◌, [], ◌∷◌, ◌++◌, None, IfOk, OnOk, OnErr, length};
+ghost use Rattle.std.specs.Prelude.{◌≡◌, ℕ, List, ◌+◌, ◌<◌, [], ◌∷◌, ◌++◌, None, IfOk, OnOk, OnErr, IfNone, OnSome, length};
 ghost use Rattle.std.specs.Option.{option_copied};
 ghost use Rattle.sr_model.specs.Chain.{clauses, clause_of};
-ghost use Rattle.sr_model.specs.Judging.{without, clause_cells, cells_of};
-ghost use Rattle.sr_check.specs.Storage.{with_live};
+ghost use Rattle.sr_model.specs.Judging.{without, first_dead, clause_cells, cells_of};
+ghost use Rattle.sr_check.specs.declared.live.Place.{Place};
+ghost use Rattle.sr_check.specs.Pages.{entry};
+ghost use Rattle.sr_check.specs.Storage.{with_live, AreDropped};
 
 use crate::pages::Table;
 use crate::walk::Walk;
@@ -143,6 +145,41 @@ impl LiveClauses {
         for number in numbers {
             self.remove(*number);
         }
+    }
+
+    /// Removes the clauses of the numbers one after another. Where one isn't live when its turn comes it is told, and
+    /// all clauses stay.
+    pub fn remove_each(&mut self, numbers: &[u32]) -> Option<u32>
+        ensures dead { result ≡ first_dead self.old numbers.now }
+        ensures removed { IfNone result (self.new ≡ without numbers.now self.old) }
+        ensures kept { OnSome result (self.new ≡ self.old) }
+    {
+        let cells = self.cells;
+        for (i, number) in numbers.iter().enumerate() {
+            let at = self.table.get(*number) as usize;
+            let place = self.places[at];
+            if !place.live {
+                revive(&mut self.places, &self.table, &numbers[..i]);
+                self.cells = cells;
+                return Some(*number);
+            }
+            set_live(&mut self.places, at, false);
+            self.cells -= place.len as u64 + 4;
+        }
+        None
+    }
+}
+
+/// Says of the places of numbers that they are live, in the order from the last number to the first.
+fn revive(places: &mut Vec<Place>, table: &Table, numbers: &[u32])
+    requires { (n : ℕ) → entry table.now n < length places.old.items }
+    ensures { (ps : List Place) → AreDropped table.now ps numbers.now places.old.items → places.new.items ≡ ps }
+{
+    let mut left = numbers.len();
+    while left > 0 {
+        left -= 1;
+        let at = table.get(numbers[left]) as usize;
+        set_live(places, at, true);
     }
 }
 
