@@ -3,3 +3,4 @@ pub mod Marking
 pub mod Storing
 pub mod Dropping
 pub mod Following
+pub mod Grouping

@@ -2,7 +2,10 @@
 use Rattle.std.specs.Prelude.{◌≡◌, ◌≤◌, List, [], ◌∷◌, take, length}
 use Rattle.sr_base.specs.Literal.{Literal}
 use Rattle.sr_model.specs.Chain.{HintEnd, closes, adds, misleads, ChainEnd, closed, unclosed, faulty}
+use Rattle.sr_model.specs.Meeting.{Meeting, met, unmet}
 use Rattle.sr_check.specs.Trail.{Marking}
+use Rattle.sr_check.specs.declared.meeting.Meet.{Meet}
+use Rattle.sr_check.specs.declared.meeting.Meet.TheVariants.{Met, Unmet}
 use Rattle.sr_check.specs.declared.chains.Open.{Open}
 use Rattle.sr_check.specs.declared.chains.Open.TheVariants.{Nothing, One, More}
 use Rattle.sr_check.specs.declared.chains.Hint.{Hint}
@@ -31,3 +34,7 @@ pub record KeepsFront (old new : Marking) : Type 0 where
   pub front : take (length old.lits) new.lits ≡ old.lits
   pub longer : length old.lits ≤ length new.lits
   pub room : old.room ≤ new.room
+
+abbrev pub meeting_of : Meet → Meeting
+meeting_of Met = met
+meeting_of (Unmet x) = unmet x

@@ -2,3 +2,4 @@ pub mod Pages
 pub mod Trail
 pub mod Storage
 pub mod Ends
+pub mod Indexing

@@ -4,7 +4,9 @@
 #![tactic(auto)]
 
 mod chains;
+mod groups;
 mod live;
 mod marks;
+mod meeting;
 mod pages;
 mod walk;

@@ -63,6 +63,18 @@ impl Table {
         self.entries[at] = to;
         Ok(())
     }
+
+    /// Sets a number back to 0. It takes no memory.
+    pub fn unset(&mut self, number: u32)
+        ensures { Sets self.old self.new number 0 }
+    {
+        let page = number as usize / PAGE;
+        if page >= self.pages.len() || self.pages[page] == 0 {
+            return;
+        }
+        let at = self.pages[page] * PAGE + number as usize % PAGE;
+        self.entries[at] = 0;
+    }
 }
 
 /// Makes a page where there is none.
