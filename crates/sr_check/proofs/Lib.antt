@@ -4,3 +4,4 @@ pub mod Storing
 pub mod Dropping
 pub mod Following
 pub mod Grouping
+pub mod Fitting

@@ -25,6 +25,7 @@ enum Hint {
 }
 
 /// How a chain ends; where it is unclosed the literals are those of the marks.
+#[derive(Clone, Copy)]
 pub enum End {
     Closed,
     Unclosed,

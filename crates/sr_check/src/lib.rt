@@ -10,3 +10,4 @@ mod marks;
 mod meeting;
 mod pages;
 mod walk;
+mod witness;

@@ -14,6 +14,7 @@ use sr_base::{Cause, Lit, NoMemory};
 use sr_wit::{Group, Step};
 
 /// How a step is met.
+#[derive(Clone, Copy)]
 pub enum Meet {
     Met,
     Unmet(Cause),

@@ -1,5 +1,5 @@
 // A walk over the live clauses in order.
-ghost use Rattle.std.specs.Prelude.{◌≡◌, ◌++◌};
+ghost use Rattle.std.specs.Prelude.{◌≡◌, ◌++◌, [], IfNone};
 ghost use Rattle.sr_check.specs.Storage.{ArePlaces, live_of, taken};
 
 use crate::live::Place;
@@ -35,7 +35,8 @@ impl<'a> Walk<'a> {
 
     /// The next clause, with its number.
     pub fn next(&mut self) -> Option<(u32, &'a [Lit])>
-        ensures { self.old ≡ taken result ++ self.new }
+        ensures next { self.old ≡ taken result ++ self.new }
+        ensures end { IfNone result (self.old ≡ []) }
     {
         while let [place, rest @ ..] = self.places {
             self.places = rest;
