@@ -104,6 +104,7 @@ added_is_open live a h l e = at (clause_of live h) e
     one c [] i e = absurd cc
     one c (k ∷ []) i e = let is : l ≡ k = cc in open_first a c [] l (sym i ∙ ap (λ x. x ∷ []) (sym is))
     one c (k ∷ m ∷ ls) i e = absurd cc
+
     at : (o : Option (List Literal)) → adds l ≡ hint_of_clause a h o → has (complement l) a ≡ false
     at None e = absurd cc
     at (Some c) e = one c (open_literals a c) refl e
@@ -123,3 +124,9 @@ follow_step strict live start a a' hints i h l within is inv e s =
       rest = inv.rest ∙ ap (chain strict live a) split ∙ chain_adds strict live a h (drop (suc i) hints) l inv.no_pair e;
       no_pair = none;
     })
+
+-- a chain that closes isn't unclosed
+pub closed_somehow : (strict : Bool) (hs : List ℕ) (b : List Literal) → closes_before strict hs ≡ unclosed b → ⊥
+closed_somehow strict [] b e = cc
+closed_somehow true (h ∷ hs) b e = cc
+closed_somehow false (h ∷ hs) b e = cc

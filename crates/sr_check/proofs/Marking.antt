@@ -58,6 +58,7 @@ marks_stay table n k h m = rw (take_all n table h) (at table k m)
     none zero m = refl
     none (suc k) zero = refl
     none (suc k) (suc m) = none k m
+
     at : (table : List Bool) (k m : ℕ) → mark_at (table ++ replicate k false) m ≡ mark_at table m
     at [] k m = none k m
     at (b ∷ bs) k zero = refl

@@ -72,6 +72,7 @@ paged_make pages entries page made lt is h =
         → length (entries ++ replicate 4096 0) ≡ length entries + 4096 → get_or (set pages page made) p 0 * 4096 + 4096 ≤ length (entries ++ replicate 4096 0)
     room p (inl x) long = omega (arith, x.1, h.whole)
     room p (inr x) long = omega (arith, x.1, h.room p)
+
     apart : (p q : ℕ) → ((p ≡ page) × (get_or (set pages page made) p 0 ≡ made)) ⊎ ((p ≢ page) × (get_or (set pages page made) p 0 ≡ get_or pages p 0))
         → ((q ≡ page) × (get_or (set pages page made) q 0 ≡ made)) ⊎ ((q ≢ page) × (get_or (set pages page made) q 0 ≡ get_or pages q 0))
         → get_or (set pages page made) p 0 ≡ get_or (set pages page made) q 0 → (get_or (set pages page made) p 0 ≡ 0) ⊎ (p ≡ q)

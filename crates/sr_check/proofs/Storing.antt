@@ -41,8 +41,8 @@ none_live lits [] n h j l e = absurd cc
 none_live lits (p ∷ ps) n h zero l e = let t : (p.id == n) ≡ true = grind (arith, nat_tests) in let s : Some (part lits p) ≡ None = rw (l, t) at h in absurd cc
 none_live lits (p ∷ ps) n h (suc j) l e = by_test p.live
     (λ t. by_test (p.id == n)
-        (λ d. let s : Some (part lits p) ≡ None = rw (t, d) at h in absurd cc)
-        (λ d. none_live lits ps n (rw (t, d) at h) j l e))
+    (λ d. let s : Some (part lits p) ≡ None = rw (t, d) at h in absurd cc)
+    (λ d. none_live lits ps n (rw (t, d) at h) j l e))
     (λ f. none_live lits ps n (rw f at h) j l e)
 
 -- the table leads to the one place of a number
@@ -125,16 +125,19 @@ stored_dead lits ps p table cells dead fits s = record {
     at_first (inl x) = ap (λ (q : Place). q.live) x.1 ∙ s.first
     at_first (inr (inl x)) = ap (λ (q : Place). q.live) x.1 ∙ dead
     at_first (inr (inr x)) = ap (λ (q : Place). q.live) x
+
     at_within : (i : ℕ) → ((i < length ps) × (place_at (ps ++ p ∷ []) i ≡ place_at ps i)) ⊎ (((i ≡ length ps) × (place_at (ps ++ p ∷ []) i ≡ p)) ⊎ (place_at (ps ++ p ∷ []) i ≡ nowhere))
         → (place_at (ps ++ p ∷ []) i).start + (place_at (ps ++ p ∷ []) i).len ≤ length lits
     at_within i (inl x) = rw x.1 (s.within i)
     at_within i (inr (inl x)) = rw x.1 fits
     at_within i (inr (inr x)) = rw x (omega arith)
+
     at_finds : (i : ℕ) → ((i < length ps) × (place_at (ps ++ p ∷ []) i ≡ place_at ps i)) ⊎ (((i ≡ length ps) × (place_at (ps ++ p ∷ []) i ≡ p)) ⊎ (place_at (ps ++ p ∷ []) i ≡ nowhere))
         → (place_at (ps ++ p ∷ []) i).live ≡ true → entry table (place_at (ps ++ p ∷ []) i).id ≡ i
     at_finds i (inl x) = rw x.1 (s.finds i)
     at_finds i (inr (inl x)) = rw x.1 (λ l. absurd cc)
     at_finds i (inr (inr x)) = rw x (λ l. absurd cc)
+
     at_names : (n : ℕ) → ((entry table n < length ps) × (place_at (ps ++ p ∷ []) (entry table n) ≡ place_at ps (entry table n))) ⊎ (((entry table n ≡ length ps) × (place_at (ps ++ p ∷ []) (entry table n) ≡ p)) ⊎ (place_at (ps ++ p ∷ []) (entry table n) ≡ nowhere))
         → (place_at (ps ++ p ∷ []) (entry table n)).live ≡ true → (place_at (ps ++ p ∷ []) (entry table n)).id ≡ n
     at_names n (inl x) = rw x.1 (s.names n)
@@ -162,26 +165,33 @@ stored_push lits ps p table table' cells cells' live fits s none sets sum = reco
   where
     here_entry : (n : ℕ) → p.id ≡ n → entry table' n ≡ length ps
     here_entry n e = let t : (p.id == n) ≡ true = grind (arith, nat_tests) in sets n ∙ rw t refl
+
     there_entry : (n : ℕ) → p.id ≢ n → entry table' n ≡ entry table n
     there_entry n ne = let t : (p.id == n) ≡ false = grind (arith, nat_tests) in sets n ∙ rw t refl
+
     some : 0 < length ps
     some = omega (arith, s.known 0)
+
     at_first : ((0 < length ps) × (place_at (ps ++ p ∷ []) 0 ≡ place_at ps 0)) ⊎ (((0 ≡ length ps) × (place_at (ps ++ p ∷ []) 0 ≡ p)) ⊎ (place_at (ps ++ p ∷ []) 0 ≡ nowhere)) → (place_at (ps ++ p ∷ []) 0).live ≡ false
     at_first (inl x) = ap (λ (q : Place). q.live) x.1 ∙ s.first
     at_first (inr (inl x)) = absurd (omega (arith, x.0, s.known 0))
     at_first (inr (inr x)) = ap (λ (q : Place). q.live) x
+
     at_within : (i : ℕ) → ((i < length ps) × (place_at (ps ++ p ∷ []) i ≡ place_at ps i)) ⊎ (((i ≡ length ps) × (place_at (ps ++ p ∷ []) i ≡ p)) ⊎ (place_at (ps ++ p ∷ []) i ≡ nowhere))
         → (place_at (ps ++ p ∷ []) i).start + (place_at (ps ++ p ∷ []) i).len ≤ length lits
     at_within i (inl x) = rw x.1 (s.within i)
     at_within i (inr (inl x)) = rw x.1 fits
     at_within i (inr (inr x)) = rw x (omega arith)
+
     at_finds : (i : ℕ) → ((i < length ps) × (place_at (ps ++ p ∷ []) i ≡ place_at ps i)) ⊎ (((i ≡ length ps) × (place_at (ps ++ p ∷ []) i ≡ p)) ⊎ (place_at (ps ++ p ∷ []) i ≡ nowhere))
         → (place_at (ps ++ p ∷ []) i).live ≡ true → entry table' (place_at (ps ++ p ∷ []) i).id ≡ i
     at_finds i (inl x) = rw x.1 (λ l. there_entry (place_at ps i).id (λ e. none i l (sym e)) ∙ s.finds i l)
     at_finds i (inr (inl x)) = rw x.1 (λ l. here_entry p.id refl ∙ sym x.0)
     at_finds i (inr (inr x)) = rw x (λ l. absurd cc)
+
     here : (n : ℕ) → p.id ≡ n → (place_at (ps ++ p ∷ []) (entry table' n)).live ≡ true → (place_at (ps ++ p ∷ []) (entry table' n)).id ≡ n
     here n e = rw (here_entry n e) (let last : place_at (ps ++ p ∷ []) (length ps) ≡ p = get_or_at ps p [] nowhere (length ps) refl in rw last (λ l. e))
+
     there : (n : ℕ) → p.id ≢ n → (place_at (ps ++ p ∷ []) (entry table' n)).live ≡ true → (place_at (ps ++ p ∷ []) (entry table' n)).id ≡ n
     there n ne = rw (there_entry n ne) (let old : place_at (ps ++ p ∷ []) (entry table n) ≡ place_at ps (entry table n) = get_or_append_left ps (p ∷ []) nowhere (entry table n) (s.known n) in rw old (s.names n))
 
@@ -238,18 +248,22 @@ stored_without lits ps table cells i live s = record {
   where
     within : i < length ps
     within = live_within ps i live
+
     at_first : ((0 ≡ i) × (place_at (with_live ps i false) 0 ≡ record { start = (place_at ps i).start; len = (place_at ps i).len; id = (place_at ps i).id; live = false })) ⊎ ((0 ≢ i) × (place_at (with_live ps i false) 0 ≡ place_at ps 0))
         → (place_at (with_live ps i false) 0).live ≡ false
     at_first (inl x) = ap (λ (q : Place). q.live) x.1
     at_first (inr x) = ap (λ (q : Place). q.live) x.1 ∙ s.first
+
     at_within : (j : ℕ) → ((j ≡ i) × (place_at (with_live ps i false) j ≡ record { start = (place_at ps i).start; len = (place_at ps i).len; id = (place_at ps i).id; live = false })) ⊎ ((j ≢ i) × (place_at (with_live ps i false) j ≡ place_at ps j))
         → (place_at (with_live ps i false) j).start + (place_at (with_live ps i false) j).len ≤ length lits
     at_within j (inl x) = rw x.1 (s.within i)
     at_within j (inr x) = rw x.1 (s.within j)
+
     at_finds : (j : ℕ) → ((j ≡ i) × (place_at (with_live ps i false) j ≡ record { start = (place_at ps i).start; len = (place_at ps i).len; id = (place_at ps i).id; live = false })) ⊎ ((j ≢ i) × (place_at (with_live ps i false) j ≡ place_at ps j))
         → (place_at (with_live ps i false) j).live ≡ true → entry table (place_at (with_live ps i false) j).id ≡ j
     at_finds j (inl x) = rw x.1 (λ l. absurd cc)
     at_finds j (inr x) = rw x.1 (s.finds j)
+
     at_names : (n : ℕ) → ((entry table n ≡ i) × (place_at (with_live ps i false) (entry table n) ≡ record { start = (place_at ps i).start; len = (place_at ps i).len; id = (place_at ps i).id; live = false })) ⊎ ((entry table n ≢ i) × (place_at (with_live ps i false) (entry table n) ≡ place_at ps (entry table n)))
         → (place_at (with_live ps i false) (entry table n)).live ≡ true → (place_at (with_live ps i false) (entry table n)).id ≡ n
     at_names n (inl x) = rw x.1 (λ l. absurd cc)

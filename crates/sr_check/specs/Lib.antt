@@ -3,3 +3,4 @@ pub mod Trail
 pub mod Storage
 pub mod Ends
 pub mod Indexing
+pub mod Ready

@@ -1,7 +1,8 @@
 // Following hints (after LRAT): a hint names a clause all of whose literals but one are false, and the one that is left
 // follows. One pass over the clause finds it, and ends early at a second one.
-ghost use Rattle.std.specs.Prelude.{◌≡◌, ◌<◌, List, IfOk};
+ghost use Rattle.std.specs.Prelude.{◌≡◌, false, List, IfOk};
 ghost use Rattle.sr_base.specs.Literal.{Literal};
+ghost use Rattle.sr_model.specs.Substitution.{has_pair};
 ghost use Rattle.sr_model.specs.Chain.{clauses, open_literals, hint, closes_before, chain};
 ghost use Rattle.sr_check.specs.Trail.{CoversAll, CoversClauses};
 ghost use Rattle.sr_check.specs.Ends.{open_end, hint_end, chain_end, KeepsFront};
@@ -41,6 +42,7 @@ pub fn follow(
 ) -> Result<End, NoMemory>
     requires { CoversClauses marks.old.room (clauses live.now) }
     ensures end { IfOk result (λ e. chain strict live.now marks.old.lits hints.now ≡ chain_end e marks.new.lits) }
+    ensures open { IfOk result (λ e. e ≡ End.Unclosed → has_pair marks.new.lits ≡ false) }
     ensures front { KeepsFront marks.old marks.new }
 {
     if marks.has_pair() {

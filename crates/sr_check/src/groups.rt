@@ -47,7 +47,12 @@ pub fn forget(index: &mut Table, groups: &[Group])
 }
 
 /// The hints for a live clause: those of its first group, or none.
-pub fn hints_for<'a>(index: &Table, live: &LiveClauses, groups: &'a [Group], number: u32) -> &'a [u32]
+pub fn hints_for<'a>(
+    index: &Table,
+    live: &LiveClauses,
+    groups: &'a [Group],
+    number: u32,
+) -> &'a [u32]
     requires index { IsIndex index.now live.now groups.now }
     requires live { IsLive live.now number }
     ensures { result.now ≡ group_of groups.now number }

@@ -1,17 +1,23 @@
 // Meeting a step: by the chain of its prefix, or by its witness.
-ghost use Rattle.std.specs.Prelude.{◌≡◌, ℕ, ◌≤◌, ◌++◌, [], IfOk, OnOk};
+ghost use Rattle.std.specs.Prelude.{◌≡◌, ◌≤◌, ◌++◌, [], false, IfOk, OnOk};
 ghost use Rattle.sr_base.specs.Literal.{compl};
+ghost use Rattle.sr_model.specs.Substitution.{has_pair, substitution_for, IsPivot};
 ghost use Rattle.sr_model.specs.Chain.{clauses, chain};
-ghost use Rattle.sr_model.specs.Meeting.{no_groups, meets_over, meets};
-ghost use Rattle.sr_check.specs.Pages.{entry};
+ghost use Rattle.sr_model.specs.Meeting.{no_groups, witness_meets, meets_over, meets};
+ghost use Rattle.sr_check.specs.Indexing.{IsClear, IsIndex};
+ghost use Rattle.sr_check.specs.Ready.{IsReady};
 ghost use Rattle.sr_check.specs.Trail.{CoversClauses};
 ghost use Rattle.sr_check.specs.Ends.{chain_end, meeting_of, KeepsFront};
 
 use crate::chains::{End, follow};
+use crate::groups::{build, forget};
 use crate::live::LiveClauses;
 use crate::marks::Marks;
-use sr_base::{Cause, Lit, NoMemory};
-use sr_wit::{Group, Step};
+use crate::pages::Table;
+use crate::witness::{Trial, meet_witness};
+use sr_base::{Cause, Items, Lit, NoMemory};
+use sr_wit::{Group, Step, Subst};
+use std::alloc::Global;
 
 /// How a step is met.
 #[derive(Clone, Copy)]
@@ -20,25 +26,34 @@ pub enum Meet {
     Unmet(Cause),
 }
 
-/// How a step is met. The marks are clear before and after.
+/// What is needed besides the clauses while a step is met: marks, and a table for its groups. Both are clear between
+/// steps.
+#[derive(Drop)]
+pub struct Scratch {
+    pub alloc: Global,
+    pub marks: Marks,
+    pub index: Table,
+}
+
+/// How a step is met.
 pub fn meet_step(
     strict: bool,
     live: &LiveClauses,
     last: u32,
-    marks: &mut Marks,
+    scratch: &mut Scratch,
     step: &Step,
 ) -> Result<Meet, NoMemory>
-    requires clear { marks.old.lits ≡ [] }
-    requires room { CoversClauses marks.old.room (clauses live.now) }
+    requires clear { IsReady scratch.old }
+    requires room { CoversClauses scratch.old.marks.room (clauses live.now) }
     ensures met { IfOk result (λ m. meets strict live.now last step.now ≡ meeting_of m) }
-    ensures clear { marks.new.lits ≡ [] }
-    ensures room { marks.old.room ≤ marks.new.room }
+    ensures clear { IsReady scratch.new }
+    ensures room { scratch.old.marks.room ≤ scratch.new.marks.room }
 {
     if step.id() <= last {
         return Ok(Meet::Unmet(Cause::NotNew));
     }
-    let met = meet_over(strict, live, marks, step);
-    marks.cut(0);
+    let met = meet_over(strict, live, scratch, step);
+    scratch.marks.cut(0);
     met
 }
 
@@ -46,21 +61,23 @@ pub fn meet_step(
 fn meet_over(
     strict: bool,
     live: &LiveClauses,
-    marks: &mut Marks,
+    scratch: &mut Scratch,
     step: &Step,
 ) -> Result<Meet, NoMemory>
-    requires clear { marks.old.lits ≡ [] }
-    requires room { CoversClauses marks.old.room (clauses live.now) }
+    requires clear { IsReady scratch.old }
+    requires room { CoversClauses scratch.old.marks.room (clauses live.now) }
     ensures met { IfOk result (λ m. meets_over strict live.now step.now ≡ meeting_of m) }
-    ensures room { marks.old.room ≤ marks.new.room }
+    ensures clear { IsClear scratch.new.index }
+    ensures room { scratch.old.marks.room ≤ scratch.new.marks.room }
 {
     let lits = step.clause().lits();
-    match refute(strict, live, marks, lits, step.prefix().as_slice())? {
+    let hints = step.prefix().as_slice();
+    match refute(strict, live, &mut scratch.marks, lits, hints)? {
         End::Closed => Ok(refuse_groups(strict, step.groups().as_slice())),
         End::Faulty(cause) => Ok(Meet::Unmet(cause)),
         End::Unclosed => match lits {
             [] => Ok(Meet::Unmet(Cause::Unclosed)),
-            [_pivot, ..] => Err(NoMemory),
+            [pivot, ..] => meet_by_witness(strict, live, scratch, step, *pivot),
         },
     }
 }
@@ -75,6 +92,75 @@ fn refuse_groups(strict: bool, groups: &[Group]) -> Meet
     }
 }
 
+/// How a step is met by its witness, from the literals that its prefix reached.
+fn meet_by_witness(
+    strict: bool,
+    live: &LiveClauses,
+    scratch: &mut Scratch,
+    step: &Step,
+    pivot: Lit,
+) -> Result<Meet, NoMemory>
+    requires clear { IsClear scratch.old.index }
+    requires no_pair { has_pair scratch.old.marks.lits ≡ false }
+    requires room { CoversClauses scratch.old.marks.room (clauses live.now) }
+    requires pivot { IsPivot pivot step.now.clause }
+    ensures met { IfOk result (λ m. witness_meets strict live.now scratch.old.marks.lits (substitution_for step.now.clause step.now.witness) step.now.groups ≡ meeting_of m) }
+    ensures clear { IsClear scratch.new.index }
+    ensures room { scratch.old.marks.room ≤ scratch.new.marks.room }
+{
+    let groups = step.groups().as_slice();
+    let met = match build(&mut scratch.index, live, groups) {
+        Ok(()) => try_witness(strict, live, scratch, step, pivot),
+        Err(NoMemory) => Err(NoMemory),
+    };
+    forget(&mut scratch.index, groups);
+    met
+}
+
+/// The same where the table leads to the groups. A step without a witness has the one that makes its pivot true.
+fn try_witness(
+    strict: bool,
+    live: &LiveClauses,
+    scratch: &mut Scratch,
+    step: &Step,
+    pivot: Lit,
+) -> Result<Meet, NoMemory>
+    requires index { IsIndex scratch.old.index live.now step.now.groups }
+    requires no_pair { has_pair scratch.old.marks.lits ≡ false }
+    requires room { CoversClauses scratch.old.marks.room (clauses live.now) }
+    requires pivot { IsPivot pivot step.now.clause }
+    ensures met { IfOk result (λ m. witness_meets strict live.now scratch.old.marks.lits (substitution_for step.now.clause step.now.witness) step.now.groups ≡ meeting_of m) }
+    ensures index { scratch.new.index ≡ scratch.old.index }
+    ensures room { scratch.old.marks.room ≤ scratch.new.marks.room }
+{
+    let mut left = Items::new(scratch.alloc);
+    let groups = step.groups().as_slice();
+    let index = &scratch.index;
+    match step.witness() {
+        Some(subst) => {
+            let trial = Trial {
+                strict,
+                live,
+                subst,
+                groups,
+                index,
+            };
+            meet_witness(&trial, &mut scratch.marks, &mut left)
+        }
+        None => {
+            let subst = &Subst::pivot_only(scratch.alloc, pivot)?;
+            let trial = Trial {
+                strict,
+                live,
+                subst,
+                groups,
+                index,
+            };
+            meet_witness(&trial, &mut scratch.marks, &mut left)
+        }
+    }
+}
+
 /// Assumes the complements of literals, and follows hints.
 pub fn refute(
     strict: bool,
@@ -85,6 +171,7 @@ pub fn refute(
 ) -> Result<End, NoMemory>
     requires { CoversClauses marks.old.room (clauses live.now) }
     ensures end { IfOk result (λ e. chain strict live.now (marks.old.lits ++ compl lits.now) hints.now ≡ chain_end e marks.new.lits) }
+    ensures open { IfOk result (λ e. e ≡ End.Unclosed → has_pair marks.new.lits ≡ false) }
     ensures front { KeepsFront marks.old marks.new }
 {
     assume(marks, lits)?;

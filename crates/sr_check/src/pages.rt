@@ -78,11 +78,7 @@ impl Table {
 }
 
 /// Makes a page where there is none.
-fn open_page(
-    pages: &mut Vec<usize>,
-    entries: &mut Vec<u32>,
-    page: usize,
-) -> Result<(), NoMemory>
+fn open_page(pages: &mut Vec<usize>, entries: &mut Vec<u32>, page: usize) -> Result<(), NoMemory>
     requires { IsPaged pages.old.items entries.old.items }
     ensures paged { IsPaged pages.new.items entries.new.items }
     ensures same { SameEntries (paged pages.old.items entries.old.items) (paged pages.new.items entries.new.items) }

@@ -18,6 +18,7 @@ use sr_base::{Cause, Lit, LitList, NoMemory};
 use sr_wit::{Group, Reduced, Subst};
 
 /// A witness, what it is tried on, and the groups of hints with the table that leads to them.
+#[derive(Clone, Copy)]
 pub struct Trial<'a> {
     pub strict: bool,
     pub live: &'a LiveClauses,
@@ -27,11 +28,7 @@ pub struct Trial<'a> {
 }
 
 /// How a step is met by its witness. The marks hold what the prefix reached, and keep it.
-pub fn meet_witness(
-    trial: &Trial,
-    marks: &mut Marks,
-    left: &mut LitList,
-) -> Result<Meet, NoMemory>
+pub fn meet_witness(trial: &Trial, marks: &mut Marks, left: &mut LitList) -> Result<Meet, NoMemory>
     requires no_pair { has_pair marks.old.lits ≡ false }
     requires room { CoversClauses marks.old.room (clauses trial.now.live.now) }
     requires index { IsIndex trial.now.index.now trial.now.live.now trial.now.groups.now }
