@@ -5,3 +5,4 @@ pub mod Dropping
 pub mod Following
 pub mod Grouping
 pub mod Fitting
+pub mod Checks

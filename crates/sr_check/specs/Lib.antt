@@ -4,3 +4,4 @@ pub mod Storage
 pub mod Ends
 pub mod Indexing
 pub mod Ready
+pub mod Checking

@@ -4,6 +4,7 @@
 #![tactic(auto)]
 
 mod chains;
+mod checker;
 mod groups;
 mod live;
 mod marks;
@@ -11,3 +12,5 @@ mod meeting;
 mod pages;
 mod walk;
 mod witness;
+
+pub use checker::{Checker, TakeStop};

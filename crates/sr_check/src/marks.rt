@@ -3,7 +3,7 @@
 ghost use Rattle.std.specs.Prelude.{◌≡◌, ◌≤◌, ◌<◌, ◌+◌, ◌*◌, false, [], ◌∷◌, ◌++◌, take, length, slice_set, OnOk, OnErr};
 ghost use Rattle.sr_base.specs.Literal.{has, complement, literal_code};
 ghost use Rattle.sr_model.specs.Substitution.{has_pair};
-ghost use Rattle.sr_check.specs.Trail.{Covers, lits_of, AreNew, IsTableOf, KeepsMarks};
+ghost use Rattle.sr_check.specs.Trail.{Covers, CoversAll, lits_of, AreNew, IsTableOf, KeepsMarks};
 
 use sr_base::{Lit, NoMemory};
 use std::alloc::Global;
@@ -146,4 +146,16 @@ fn unset(table: &mut Vec<bool>, l: Lit)
     ensures { table.new.items ≡ slice_set table.old.items (literal_code l) false }
 {
     table[l.code() as usize] = false;
+}
+
+/// Makes room for the marks of literals and of their complements.
+pub fn cover_all(marks: &mut Marks, lits: &[Lit]) -> Result<(), NoMemory>
+    ensures lits { marks.new.lits ≡ marks.old.lits }
+    ensures room { marks.old.room ≤ marks.new.room }
+    ensures ok { OnOk result (CoversAll marks.new.room lits.now) }
+{
+    for l in lits {
+        marks.cover(*l)?;
+    }
+    Ok(())
 }
