@@ -69,3 +69,9 @@ abbrev pub RejectionKeepsLive : Type 0
 RejectionKeepsLive = (strict : Bool) (f : List (List Literal)) (before items : List Item) (item : Item) (id : ℕ) (x : Cause)
     → judge strict f before ≡ Going → judge strict f (before ++ item ∷ []) ≡ Rejected id x
     → (after_items strict (start f) (before ++ item ∷ items)).live ≡ live_after (first_live f) before
+
+-- and where the empty clause verifies the proof, with those that were live before it
+abbrev pub VerificationKeepsLive : Type 0
+VerificationKeepsLive = (strict : Bool) (f : List (List Literal)) (before items : List Item) (item : Item)
+    → judge strict f before ≡ Going → judge strict f (before ++ item ∷ []) ≡ Verified
+    → (after_items strict (start f) (before ++ item ∷ items)).live ≡ live_after (first_live f) before

@@ -4,9 +4,17 @@
 #![tactic(auto)]
 
 mod images;
+mod laws;
+mod plain;
 mod tokens;
 mod verdict;
 
 pub use images::Image;
+pub use laws::{
+    closed_chain_refutes, empty_is_sound, met_is_sound, redundancy_is_sound, redundancy_keeps,
+    refutation_is_sound, rejection_keeps_live, rup_holds, strict_is_verified, taking_judges,
+    taking_keeps_live, unclosed_chain_keeps, verification_keeps_live, verified_is_unsat,
+};
+pub use plain::{has_no_literal, refutes_plain};
 pub use tokens::{Token, Word};
 pub use verdict::Verdict;

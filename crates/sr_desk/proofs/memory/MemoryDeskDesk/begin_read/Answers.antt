@@ -1,0 +1,31 @@
+use Rattle.std.proofs.Common.{rules, ◌≡◌, ◌<◌, length, Some, sym, arith, refl, IsTrue}
+use Rattle.sr_desk.specs.MemoryParts.{names_of, texts_of, text_at, latest, fits}
+use Rattle.sr_desk.specs.declared.held.Usage.TheVariants.{Reading}
+use Rattle.sr_desk.proofs.MemoryLemmas.{AllFit-set, AllApart-set, AllUnused-set, output-set}
+use Rattle.sr_desk.proofs.VersionLemmas.{length-texts, reading-fits}
+use Rattle.sr_desk.proofs.DeskLemmas.{begins_read-ok}
+use Rattle.sr_desk.proofs.memory.MemoryDeskDesk.begin_read.Goals as goal
+
+pub invariant_of-self-in-Some : goal.invariant_of-self-in-Some
+invariant_of-self-in-Some c =
+    let lt : c.in-Some.version < length c.args.self.now.versions.items = rw c.deref.ensures.value at c.in-Some.ensures.within in
+    let size : c.text_len-end.result ≡ length (text_at (texts_of c.args.self.now.versions.items) c.in-Some.version) = rw c.deref-in-Some.ensures.value at c.text_len-end.ensures in
+    let fit : IsTrue (fits (texts_of c.args.self.now.versions.items) (Reading c.in-Some.version 0 c.text_len-end.result)) =
+    reading-fits (texts_of c.args.self.now.versions.items) c.in-Some.version 0 c.text_len-end.result (omega (arith, lt, length-texts c.args.self.now.versions.items)) (omega arith) (omega (arith, size)) in
+    let nine : length c.args.self.now.uses ≡ 9 = search rules in
+    let some : c.args.self.now.begun < 8 = c.requires in
+    record {
+      fit = AllFit-set (texts_of c.args.self.now.versions.items) c.args.self.now.uses c.args.self.now.begun (Reading c.in-Some.version 0 c.text_len-end.result) c.args.self.now.fit fit;
+      apart = AllApart-set c.args.self.now.uses c.args.self.now.begun (Reading c.in-Some.version 0 c.text_len-end.result) (omega (arith, nine, some)) c.args.self.now.apart (λ j ne. refl);
+      later = AllUnused-set c.args.self.now.uses c.args.self.now.begun (Reading c.in-Some.version 0 c.text_len-end.result) c.args.self.now.later;
+      output = output-set c.args.self.now.uses c.args.self.now.begun (Reading c.in-Some.version 0 c.text_len-end.result) (omega (arith, some)) c.args.self.now.output;
+      some = c.args.self.now.some;
+    }
+
+pub returns-in-Some-clause-begins : goal.returns-in-Some-clause-begins
+returns-in-Some-clause-begins c =
+    let nine : length c.args.self.now.uses ≡ 9 = search rules in
+    let size : c.text_len-end.result ≡ length (text_at (texts_of c.args.self.now.versions.items) c.in-Some.version) = rw c.deref-in-Some.ensures.value at c.text_len-end.ensures in
+    let found : latest (names_of c.args.self.now.versions.items) c.args.name.now ≡ Some c.in-Some.version = sym (rw (c.deref.ensures.value, c.as_bytes.ensures.value) at c.in-Some.ensures.latest) in
+    rw size (begins_read-ok (names_of c.args.self.now.versions.items) (texts_of c.args.self.now.versions.items) c.args.self.now.out.items c.args.self.now.begun c.args.self.now.uses c.args.self.now.ended
+    c.args.self.now.faults c.args.name.now c.in-Some.version _ refl found c.requires nine c.args.self.now.later)

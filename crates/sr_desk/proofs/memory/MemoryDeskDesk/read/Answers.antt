@@ -1,0 +1,50 @@
+use Rattle.std.proofs.Common.{rules, ◌≡◌, ◌<◌, ◌≤◌, ◌+◌, ◌-◌, ℕ, min, length, ◌∙◌, arith, ap, refl, IsTrue, ◌++◌, take, drop, length-take, length-drop, length-append}
+use Rattle.sr_desk.specs.MemoryParts.{names_of, texts_of, text_at, usage_at, fits}
+use Rattle.sr_desk.specs.declared.held.Usage.TheVariants.{Reading}
+use Rattle.sr_desk.proofs.MemoryLemmas.{AllFit-set, AllApart-set, AllUnused-used, output-set, not_output}
+use Rattle.sr_desk.proofs.OwnerLemmas.{owners-set}
+use Rattle.sr_desk.proofs.VersionLemmas.{reading-fits, fits-reading, IsReading}
+use Rattle.sr_desk.proofs.DeskLemmas.{moves-ok}
+use Rattle.sr_desk.proofs.memory.MemoryDeskDesk.read.Goals as goal
+
+pub invariant_of-self-in-Reading : goal.invariant_of-self-in-Reading
+invariant_of-self-in-Reading c =
+    let was : usage_at c.args.self.now.uses c.args.slot.number ≡ Reading c.in-Reading.version c.in-Reading.place c.in-Reading.end = c.in-Reading.is in
+    let nine : length c.args.self.now.uses ≡ 9 = search rules in
+    let small : c.args.slot.number ≤ 8 = c.args.slot.small in
+    let old : IsReading (texts_of c.args.self.now.versions.items) c.in-Reading.version c.in-Reading.place c.in-Reading.end =
+    fits-reading (texts_of c.args.self.now.versions.items) c.in-Reading.version c.in-Reading.place c.in-Reading.end (rw was at (c.args.self.now.fit c.args.slot.number)) in
+    let count : c.min-count.result ≤ c.in-Reading.end - c.in-Reading.place = omega (arith, c.min-count.ensures, c.min.ensures) in
+    let fit : IsTrue (fits (texts_of c.args.self.now.versions.items) (Reading c.in-Reading.version (c.in-Reading.place + c.min-count.result) c.in-Reading.end)) =
+    reading-fits (texts_of c.args.self.now.versions.items) c.in-Reading.version (c.in-Reading.place + c.min-count.result) c.in-Reading.end old.version (omega (arith, count, old.place)) old.end in
+    record {
+      fit = AllFit-set (texts_of c.args.self.now.versions.items) c.args.self.now.uses c.args.slot.number (Reading c.in-Reading.version (c.in-Reading.place + c.min-count.result) c.in-Reading.end) c.args.self.now.fit fit;
+      apart = AllApart-set c.args.self.now.uses c.args.slot.number (Reading c.in-Reading.version (c.in-Reading.place + c.min-count.result) c.in-Reading.end) (omega (arith, nine, small)) c.args.self.now.apart (λ j ne. refl);
+      later = AllUnused-used c.args.self.now.uses c.args.self.now.begun c.args.slot.number c.in-Reading.version c.in-Reading.place c.in-Reading.end
+          (Reading c.in-Reading.version (c.in-Reading.place + c.min-count.result) c.in-Reading.end) c.args.self.now.later was;
+      output = output-set c.args.self.now.uses c.args.slot.number (Reading c.in-Reading.version (c.in-Reading.place + c.min-count.result) c.in-Reading.end)
+          (not_output c.args.self.now.uses c.args.slot.number c.in-Reading.version c.in-Reading.place c.in-Reading.end was c.args.self.now.output) c.args.self.now.output;
+      some = c.args.self.now.some;
+    }
+
+pub returns-clause-bytes : goal.returns-clause-bytes
+returns-clause-bytes c =
+    let was : usage_at c.args.self.now.uses c.args.slot.number ≡ Reading c.in-Reading.version c.in-Reading.place c.in-Reading.end = c.in-Reading.is in
+    let nine : length c.args.self.now.uses ≡ 9 = search rules in
+    let small : c.args.slot.number ≤ 8 = c.args.slot.small in
+    let old : IsReading (texts_of c.args.self.now.versions.items) c.in-Reading.version c.in-Reading.place c.in-Reading.end =
+    fits-reading (texts_of c.args.self.now.versions.items) c.in-Reading.version c.in-Reading.place c.in-Reading.end (rw was at (c.args.self.now.fit c.args.slot.number)) in
+    let count : c.min-count.result ≡ min (min (c.in-Reading.end - c.in-Reading.place) (length c.args.buf.now)) c.args.self.now.most = c.min-count.ensures ∙ ap (λ (k : ℕ). min k c.args.self.now.most) c.min.ensures in
+    let some : 0 < c.args.self.now.most = c.args.self.now.some in
+    let copied : c.copy_text.new.buf ≡ take c.min-count.result (drop c.in-Reading.place (text_at (texts_of c.args.self.now.versions.items) c.in-Reading.version)) ++ drop c.min-count.result c.args.buf.now =
+    rw c.deref.ensures.value at c.copy_text.ensures in
+    rw copied (moves-ok (texts_of c.args.self.now.versions.items) c.args.self.now.uses c.args.slot.number c.in-Reading.version c.in-Reading.place c.in-Reading.end c.min-count.result
+    (take c.min-count.result (drop c.in-Reading.place (text_at (texts_of c.args.self.now.versions.items) c.in-Reading.version))) c.args.buf.now
+    was (omega (arith, nine, small)) (omega (arith, count, old.place)) (λ h z. omega (arith, count, old.place, h, z, some)) refl
+    (simp (length-take, length-drop) (omega (arith, count, old.place, old.end)))
+    (simp (length-append, length-take, length-drop) (omega (arith, count, old.place, old.end))))
+
+pub returns-clause-owners : goal.returns-clause-owners
+returns-clause-owners c =
+    owners-set (names_of c.args.self.now.versions.items) c.args.self.now.uses c.args.slot.number (Reading c.in-Reading.version (c.in-Reading.place + c.min-count.result) c.in-Reading.end)
+    (λ name. rw c.in-Reading.is refl)

@@ -1,0 +1,11 @@
+pub mod Soundness
+pub mod Chains
+pub mod Moved
+pub mod Meetings
+pub mod Judged
+pub mod Strictness
+pub mod Taken
+pub mod Saturation
+pub mod Examples
+pub mod Lives
+pub mod Pivots

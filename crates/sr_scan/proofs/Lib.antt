@@ -1,0 +1,5 @@
+pub mod PlainLemmas
+pub mod TextLemmas
+pub mod TokenLemmas
+pub mod RunLemmas
+pub mod LeftLemmas

@@ -1,0 +1,4 @@
+pub mod Lexeme
+pub mod Machine
+pub mod Left
+pub mod Laws

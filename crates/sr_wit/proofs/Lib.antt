@@ -1,0 +1,5 @@
+pub mod PieceLemmas
+pub mod PartLemmas
+pub mod WitnessLemmas
+pub mod KeptLemmas
+pub mod ReduceLemmas

@@ -1,0 +1,9 @@
+pub mod Pieces
+pub mod Formulas
+pub mod Signs
+pub mod Kept
+pub mod Tables
+pub mod Reductions
+pub mod Steps
+pub mod LsrItems
+pub mod Faults

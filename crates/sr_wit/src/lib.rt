@@ -1,0 +1,22 @@
+//! The values that the formats read and write: formulas, witnesses, steps and deletions.
+//!
+//! A substitution is seen as the witness that it writes, and answers as the substitution of that witness.
+#![tactic(auto)]
+
+mod fault;
+mod formula;
+mod group;
+mod item;
+mod parts;
+mod reduce;
+mod step;
+mod subst;
+
+pub use fault::InFault;
+pub use formula::Formula;
+pub use group::{Group, GroupList};
+pub use item::{ItemList, LsrItem, StepList};
+pub use reduce::Reduced;
+pub use sr_model::Image;
+pub use step::Step;
+pub use subst::{Subst, SubstFault};

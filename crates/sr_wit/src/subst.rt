@@ -1,0 +1,179 @@
+// Substitutions, as witnesses write them (Buss and Thapen 2019). Beside what is written stands a table of
+// the images in the order of their variables, where one is found by binary search.
+ghost use Rattle.std.specs.Prelude.{◌≡◌, None, [], IfOk, IfErr, OnOk, OnErr};
+ghost use Rattle.sr_model.specs.Substitution.{substitution, image, reduction};
+ghost use Rattle.sr_model.specs.Witnesses.{parts_of, twice_of, witness_by};
+ghost use Rattle.sr_wit.specs.Reductions.{reduced_of, HasNoneBeside};
+ghost use Rattle.sr_wit.specs.Kept.{IsKept};
+ghost use Rattle.sr_wit.specs.Faults.{TellsTwice};
+
+use crate::parts::{
+    Part, all_maps, find, first_maps, first_twice, is_positive, made_true, opposite,
+    other_literals, rises, written_parts,
+};
+use crate::reduce::{Reduced, collect_images, keep_distinct};
+use sr_base::{Lit, LitList, NoMemory};
+use sr_model::Image;
+use std::alloc::Global;
+use std::marker::Model;
+use thiserror::Error;
+
+/// Why parts are no substitution.
+#[derive(Clone, Copy, Debug, PartialEq, Eq, Error)]
+pub enum SubstFault {
+    /// This variable gets two different images.
+    #[error("variable {0} gets two different images")]
+    Twice(u32),
+    #[error("out of memory")]
+    NoMemory,
+}
+
+impl From<NoMemory> for SubstFault {
+    ghost use Rattle.std.specs.Prelude.{◌≡◌};
+    ghost use Rattle.sr_wit.specs.declared.subst.SubstFault.TheVariants.{NoMemory};
+
+    ghost from_gives = { λ _ e. e ≡ NoMemory };
+
+    fn from(_fault: NoMemory) -> SubstFault {
+        SubstFault::NoMemory
+    }
+}
+
+/// A substitution: the pivot and other literals become true, and variables are mapped to literals.
+#[derive(Drop)]
+pub struct Subst {
+    pivot: Lit,
+    assigned: Vec<Lit>,
+    maps: Vec<(Lit, Lit)>,
+    table: Vec<Part>,
+}
+
+impl Model for Subst {
+    ghost use Rattle.sr_model.specs.Substitution.{Witness};
+    ghost use Rattle.sr_wit.specs.Tables.{HoldsSubst, witness_with};
+
+    ghost Value = { Witness };
+
+    ghost view = { λ s. witness_with s.pivot s.assigned.items s.maps.items };
+
+    ghost invariant = { λ s. HoldsSubst (witness_with s.pivot s.assigned.items s.maps.items) s.table.items };
+}
+
+impl Subst {
+    /// The substitution that makes the pivot and the assigned literals true and sends the first part of
+    /// each map to its second. A part that repeats an image is dropped. The time is n log n in the parts.
+    ///
+    /// `Twice` comes exactly where a variable gets two different images, and names the first such variable
+    /// in the order of the parts.
+    pub fn from_parts(
+        alloc: Global,
+        pivot: Lit,
+        assigned: &[Lit],
+        maps: &[(Lit, Lit)],
+    ) -> Result<Subst, SubstFault>
+        ensures ok { IfOk result (λ s. s ≡ witness_by pivot assigned.now maps.now) }
+        ensures apart { OnOk result (twice_of (parts_of pivot assigned.now maps.now) ≡ None) }
+        ensures twice { IfErr result (λ e. TellsTwice e (twice_of (parts_of pivot assigned.now maps.now))) }
+    {
+        let mut table = written_parts(alloc, pivot, assigned, maps)?;
+        table.sort_unstable_by_key(|part| part.0);
+        if rises(&table) {
+            let Ok(kept) = Vec::from_slice(alloc, assigned) else {
+                return Err(SubstFault::NoMemory);
+            };
+            let maps = all_maps(alloc, maps)?;
+            return Ok(Subst {
+                pivot,
+                assigned: kept,
+                maps,
+                table,
+            });
+        }
+        let parts = written_parts(alloc, pivot, assigned, maps)?;
+        if let Some(var) = first_twice(alloc, &parts)? {
+            return Err(SubstFault::Twice(var));
+        }
+        let assigned = other_literals(alloc, pivot, assigned)?;
+        let maps = first_maps(alloc, maps)?;
+        Ok(Subst {
+            pivot,
+            assigned,
+            maps,
+            table,
+        })
+    }
+
+    /// The substitution whose one effect is to make the pivot true.
+    pub fn pivot_only(alloc: Global, pivot: Lit) -> Result<Subst, NoMemory>
+        ensures { IfOk result (λ s. s ≡ witness_by pivot [] []) }
+    {
+        let mut table = Vec::new(alloc);
+        if table.push(made_true(pivot)).is_err() {
+            return Err(NoMemory);
+        }
+        Ok(Subst {
+            pivot,
+            assigned: Vec::new(alloc),
+            maps: Vec::new(alloc),
+            table,
+        })
+    }
+
+    /// The image of a literal.
+    pub fn image(&self, l: Lit) -> Image
+        ensures { result ≡ image (substitution self.now) l }
+    {
+        match find(&self.table, l.var()) {
+            None => Image::To(l),
+            Some(image) => {
+                if is_positive(l) {
+                    image
+                } else {
+                    opposite(image)
+                }
+            }
+        }
+    }
+
+    /// The literal that becomes true first of all. What is kept beside it repeats no part and goes from
+    /// variables, so that the same parts make the same substitution.
+    pub fn pivot(&self) -> Lit
+        ensures value { result ≡ self.now.pivot }
+        ensures kept { IsKept self.now }
+    {
+        self.pivot
+    }
+
+    /// The other literals that become true.
+    pub fn assigned(&self) -> &[Lit]
+        ensures { result.now ≡ self.now.assigned }
+    {
+        &self.assigned
+    }
+
+    /// Variables, each with the literal that is its image.
+    pub fn maps(&self) -> &[(Lit, Lit)]
+        ensures { result.now ≡ self.now.maps }
+    {
+        &self.maps
+    }
+
+    /// What the substitution makes of a clause. A clause that is left has its literals in `out`, each where
+    /// it comes first; else `out` is empty, also where memory lacks. The time is n log n in the literals.
+    pub fn reduce(&self, lits: &[Lit], out: &mut LitList) -> Result<Reduced, NoMemory>
+        ensures value { IfOk result (λ r. reduction (substitution self.now) lits.now ≡ reduced_of r out.new) }
+        ensures none_beside { IfOk result (λ r. HasNoneBeside r out.new) }
+        ensures err { OnErr result (out.new ≡ []) }
+    {
+        let alloc = *self.table.allocator();
+        let images = collect_images(self, lits, out);
+        let reduced = match images {
+            Ok(Reduced::Left) => keep_distinct(alloc, out),
+            other => other,
+        };
+        if reduced != Ok(Reduced::Left) {
+            out.cut(0);
+        }
+        reduced
+    }
+}
