@@ -1,6 +1,6 @@
 -- Lemmas on groups that fit: each is the first for its clause, which is live and needs it.
-use Rattle.std.proofs.Common.{◌≡◌, ◌≢◌, ℕ, suc, zero, ◌+◌, ◌<◌, ◌≤◌, ◌==◌, Bool, true, false, cond, not, ◌||◌, List, [], ◌∷◌, ◌++◌, length, get_or, take, drop, refl, sym, ◌∙◌, ap, subst, arith}
-use Rattle.std.specs.Prelude.{is_some, Option, Some, None}
+use Rattle.std.proofs.Common.{◌≡◌, ◌≢◌, ℕ, suc, zero, ◌+◌, ◌<◌, ◌≤◌, ◌==◌, true, false, ◌||◌, List, [], ◌∷◌, length, get_or, take, drop, refl, sym, ◌∙◌, ap, subst, arith}
+use Rattle.std.specs.Prelude.{is_some, Some, None}
 use Rattle.std.proofs.lemmas.List.{drop_more, drop_all}
 use Rattle.std.proofs.lemmas.Bool.Decides.{nat_tests}
 use Rattle.sr_base.specs.Literal.{Literal}
@@ -8,7 +8,7 @@ use Rattle.sr_base.specs.declared.names.Cause.TheVariants.{GroupSpare, GroupTwic
 use Rattle.sr_model.specs.Assignment.{holds_number}
 use Rattle.sr_model.specs.Substitution.{Substitution, reduction}
 use Rattle.sr_model.specs.Chain.{Numbered, clause_of}
-use Rattle.sr_model.specs.Meeting.{Group, Meeting, unmet, needs_hints, clause_needs_hints, groups_fit}
+use Rattle.sr_model.specs.Meeting.{Group, Meeting, unmet, needs_hints, groups_fit}
 use Rattle.sr_check.specs.Indexing.{IsLive, numbers, place_from}
 use Rattle.sr_check.proofs.Marking.{by_test}
 use Rattle.sr_check.proofs.Dropping.{holds_push}

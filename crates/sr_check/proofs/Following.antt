@@ -1,11 +1,11 @@
 -- Lemmas on following hints.
-use Rattle.std.proofs.Common.{◌≡◌, ◌<◌, ◌≤◌, ◌+◌, ◌*◌, ◌==◌, ℕ, suc, zero, Bool, true, false, not, ◌||◌, List, [], ◌∷◌, ◌++◌, refl, sym, ◌∙◌, ap, subst, arith, length, add-one, get_or, drop-cons, take, drop, Option, Some, None, option_to_list}
+use Rattle.std.proofs.Common.{◌≡◌, ◌<◌, ◌≤◌, ◌+◌, ◌==◌, ℕ, suc, zero, Bool, true, false, not, List, [], ◌∷◌, ◌++◌, refl, sym, ◌∙◌, ap, subst, arith, length, add-one, get_or, drop-cons, take, drop, Option, Some, None, option_to_list}
 use Rattle.std.specs.Prelude.{is_some}
 use Rattle.std.proofs.lemmas.List.{take-append-drop, take_all, take-append-le, length-append}
 use Rattle.std.proofs.lemmas.List.Elements.{filter-append}
-use Rattle.sr_base.specs.Literal.{Literal, complement, has, variable}
+use Rattle.sr_base.specs.Literal.{Literal, complement, has}
 use Rattle.sr_model.specs.Substitution.{has_pair}
-use Rattle.sr_model.specs.Chain.{Numbered, clauses, clause_of, open_literals, closes, adds, misleads, hint_of_open, hint_of_clause, hint, closed, unclosed, closes_before, ChainEnd, chain}
+use Rattle.sr_model.specs.Chain.{Numbered, clauses, clause_of, open_literals, closes, adds, misleads, hint_of_open, hint_of_clause, hint, unclosed, closes_before, chain}
 use Rattle.sr_base.specs.declared.names.Cause.TheVariants.{NotUnit}
 use Rattle.sr_check.specs.declared.chains.Open.TheVariants.{Nothing, One, More}
 use Rattle.sr_check.specs.Ends.{open_end, KeepsFront}

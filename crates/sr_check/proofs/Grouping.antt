@@ -1,13 +1,13 @@
 -- Lemmas on groups by the numbers of their clauses.
-use Rattle.std.proofs.Common.{◌≡◌, ◌≢◌, ◌⊎◌, inl, inr, ℕ, suc, zero, ◌+◌, ◌-◌, ◌<◌, ◌≤◌, ◌==◌, Bool, true, false, cond, not, ◌||◌, ◌&&◌, List, [], ◌∷◌, ◌++◌, length, get_or, take, drop, refl, sym, ◌∙◌, ap, subst, arith}
-use Rattle.std.specs.Prelude.{is_some, Option, Some, None}
+use Rattle.std.proofs.Common.{◌≡◌, ◌≢◌, ℕ, suc, zero, ◌+◌, ◌<◌, ◌≤◌, ◌==◌, true, false, cond, ◌||◌, List, [], ◌∷◌, ◌++◌, length, get_or, take, refl, sym, ◌∙◌, ap, arith}
+use Rattle.std.specs.Prelude.{is_some}
 use Rattle.std.proofs.lemmas.List.{take_more, length-take-le, map-append}
 use Rattle.std.proofs.lemmas.Bool.Decides.{nat_tests}
 use Rattle.sr_model.specs.Assignment.{holds_number}
 use Rattle.sr_model.specs.Chain.{Numbered, clause_of}
 use Rattle.sr_model.specs.Meeting.{Group, group_of}
-use Rattle.sr_check.specs.Pages.{Paged, entry, SameEntries}
-use Rattle.sr_check.specs.Indexing.{IsLive, numbers, place_from, IsClear, IsWithin, IsIndex, Notes}
+use Rattle.sr_check.specs.Pages.{Paged, entry}
+use Rattle.sr_check.specs.Indexing.{numbers, place_from, IsWithin, IsIndex, Notes}
 use Rattle.sr_check.proofs.Paging.{by_eq}
 use Rattle.sr_check.proofs.Marking.{by_test}
 use Rattle.sr_check.proofs.Dropping.{holds_push}

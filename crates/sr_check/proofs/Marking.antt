@@ -1,12 +1,12 @@
 -- Lemmas on lists of literals with tables of marks.
-use Rattle.std.proofs.Common.{◌≡◌, ◌≢◌, ◌⊎◌, inl, inr, ℕ, suc, zero, ◌+◌, ◌*◌, ◌<◌, ◌≤◌, Bool, true, false, not, ◌||◌, ◌&&◌, List, [], ◌∷◌, ◌++◌, length, get_or, set, take, replicate, refl, sym, ◌∙◌, ap, subst, arith}
-use Rattle.std.proofs.lemmas.List.{append_assoc, append-nil, take_more, take_all, get_or-set_same, get_or-set_other, get_or_append_left, get_or-append_right, get_or_past, length-append}
-use Rattle.sr_base.specs.Literal.{Literal, plus, minus, variable, complement, literal_code, same, has}
+use Rattle.std.proofs.Common.{◌≡◌, ◌≢◌, ℕ, suc, zero, ◌+◌, ◌<◌, ◌≤◌, Bool, true, false, not, ◌||◌, List, [], ◌∷◌, ◌++◌, length, get_or, set, take, replicate, refl, sym, ◌∙◌, ap, subst, arith}
+use Rattle.std.proofs.lemmas.List.{append_assoc, append-nil, take_more, take_all, get_or-set_same, get_or-set_other}
+use Rattle.sr_base.specs.Literal.{Literal, plus, minus, complement, literal_code, same, has}
 use Rattle.sr_base.specs.LiteralCode.{same_code}
 use Rattle.sr_base.proofs.Literals.{same_tells, has_append, complement_twice}
 use Rattle.sr_model.specs.Substitution.{has_complement, has_pair}
 use Rattle.sr_check.specs.declared.marks.Added.{Added}
-use Rattle.sr_check.specs.Trail.{Covers, CoversAll, lits_of, mark_at, IsTableOf, KeepsMarks, AreNew, IsMarked}
+use Rattle.sr_check.specs.Trail.{Covers, lits_of, mark_at, IsTableOf, KeepsMarks, AreNew, IsMarked}
 
 pub by_test : {P : Type 0} (b : Bool) → (b ≡ true → P) → (b ≡ false → P) → P
 by_test true f g = f refl

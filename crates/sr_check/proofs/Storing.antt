@@ -1,11 +1,9 @@
 -- Lemmas on the storage of the live clauses.
-use Rattle.std.proofs.Common.{◌≡◌, ◌≢◌, ◌⊎◌, inl, inr, ℕ, suc, zero, ◌+◌, ◌-◌, ◌<◌, ◌≤◌, ◌==◌, Bool, true, false, not, cond, ◌||◌, List, [], ◌∷◌, ◌++◌, Option, Some, None, length, get_or, set, take, drop, refl, sym, ◌∙◌, ap, subst, arith}
-use Rattle.std.specs.Prelude.{filter}
-use Rattle.std.proofs.lemmas.List.{append_assoc, append-nil, length-append, length-set, length-take, length-drop, get_or-set_same, get_or-set_other, get_or_default, get_or_append_left, get_or_at, get_or_past, set_at, set-set, set-get_or, take_more, drop_more, take-append-le, drop-append-le, take_at, take_all, drop_at}
+use Rattle.std.proofs.Common.{◌≡◌, ◌≢◌, ◌⊎◌, inl, inr, ℕ, suc, zero, ◌+◌, ◌-◌, ◌<◌, ◌≤◌, ◌==◌, Bool, true, false, List, [], ◌∷◌, ◌++◌, Some, None, length, get_or, set, take, drop, refl, sym, ◌∙◌, ap, subst, arith}
+use Rattle.std.proofs.lemmas.List.{append-nil, length-append, length-set, length-take, length-drop, get_or-set_same, get_or-set_other, get_or_default, get_or_append_left, get_or_at, set_at, set-set, set-get_or, take_more, drop_more, take-append-le, drop-append-le, take_all, drop_at}
 use Rattle.std.proofs.lemmas.List.Sums.{sum_by-cons}
 use Rattle.std.proofs.lemmas.Bool.Decides.{nat_tests}
 use Rattle.sr_base.specs.Literal.{Literal}
-use Rattle.sr_model.specs.Assignment.{holds_number}
 use Rattle.sr_model.specs.Chain.{Numbered, clauses, clause_of}
 use Rattle.sr_model.specs.Judging.{without, first_dead, clause_cells, cells_of}
 use Rattle.sr_check.specs.declared.live.Place.{Place}

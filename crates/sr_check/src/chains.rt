@@ -1,7 +1,7 @@
 // Following hints (after LRAT): a hint names a clause all of whose literals but one are false, and the one that is left
 // follows. One pass over the clause finds it, and ends early at a second one.
-ghost use Rattle.std.specs.Prelude.{◌≡◌, false, List, IfOk};
-ghost use Rattle.sr_base.specs.Literal.{Literal};
+ghost use Rattle.std.specs.Prelude.{◌≡◌, ◌++◌, false, List, IfOk, OnOk};
+ghost use Rattle.sr_base.specs.Literal.{Literal, compl};
 ghost use Rattle.sr_model.specs.Substitution.{has_pair};
 ghost use Rattle.sr_model.specs.Chain.{clauses, open_literals, hint, closes_before, chain};
 ghost use Rattle.sr_check.specs.Trail.{CoversAll, CoversClauses};
@@ -33,8 +33,36 @@ pub enum End {
     Faulty(Cause),
 }
 
+/// Assumes the complements of literals, and follows hints.
+pub fn refute(
+    strict: bool,
+    live: &LiveClauses,
+    marks: &mut Marks,
+    lits: &[Lit],
+    hints: &[u32],
+) -> Result<End, NoMemory>
+    requires { CoversClauses marks.old.room (clauses live.now) }
+    ensures end { IfOk result (λ e. chain strict live.now (marks.old.lits ++ compl lits.now) hints.now ≡ chain_end e marks.new.lits) }
+    ensures open { IfOk result (λ e. e ≡ End.Unclosed → has_pair marks.new.lits ≡ false) }
+    ensures front { KeepsFront marks.old marks.new }
+{
+    assume(marks, lits)?;
+    follow(strict, live, marks, hints)
+}
+
+/// Assumes the complements of literals.
+pub fn assume(marks: &mut Marks, lits: &[Lit]) -> Result<(), NoMemory>
+    ensures ok { OnOk result (marks.new.lits ≡ marks.old.lits ++ compl lits.now) }
+    ensures front { KeepsFront marks.old marks.new }
+{
+    for l in lits {
+        marks.add(l.neg())?;
+    }
+    Ok(())
+}
+
 /// Follows hints in order. Strict checking refuses a hint that stands after the conflict.
-pub fn follow(
+fn follow(
     strict: bool,
     live: &LiveClauses,
     marks: &mut Marks,

@@ -11,7 +11,7 @@ use crate::live::LiveClauses;
 use crate::marks::{Marks, cover_all};
 use crate::meeting::{Meet, Scratch, meet_step};
 use crate::pages::Table;
-use sr_base::{AddStop, Cause, Limits, Lit, NoMemory};
+use sr_base::{AddStop, Cause, Items, Limits, Lit, NoMemory};
 use sr_model::Verdict;
 use sr_wit::{Formula, LsrItem, Step};
 use std::alloc::Global;
@@ -104,6 +104,7 @@ impl Checker {
                 alloc,
                 marks,
                 index,
+                left: Items::new(alloc),
             },
         })
     }

@@ -2,8 +2,8 @@
 // its first group, counted from 1. It is built for one step, and all that was set is unset after it.
 ghost use Rattle.std.specs.Prelude.{◌≡◌, OnOk, OnErr};
 ghost use Rattle.sr_model.specs.Meeting.{group_of};
-ghost use Rattle.sr_check.specs.Pages.{SameEntries};
-ghost use Rattle.sr_check.specs.Indexing.{IsClear, IsWithin, IsIndex, IsLive, Notes};
+ghost use Rattle.sr_check.specs.Pages.{entry, SameEntries};
+ghost use Rattle.sr_check.specs.Indexing.{place_from, IsClear, IsWithin, IsIndex, Notes};
 
 use crate::live::LiveClauses;
 use crate::pages::Table;
@@ -46,15 +46,9 @@ pub fn forget(index: &mut Table, groups: &[Group])
     }
 }
 
-/// The hints for a live clause: those of its first group, or none.
-pub fn hints_for<'a>(
-    index: &Table,
-    live: &LiveClauses,
-    groups: &'a [Group],
-    number: u32,
-) -> &'a [u32]
-    requires index { IsIndex index.now live.now groups.now }
-    requires live { IsLive live.now number }
+/// The hints for a clause: those of its first group, to which the table leads, or none.
+pub fn hints_for<'a>(index: &Table, groups: &'a [Group], number: u32) -> &'a [u32]
+    requires { entry index.now number ≡ place_from 1 groups.now number }
     ensures { result.now ≡ group_of groups.now number }
 {
     let place = index.get(number) as usize;

@@ -10,6 +10,8 @@ mod live;
 mod marks;
 mod meeting;
 mod pages;
+#[cfg(test)]
+mod tests;
 mod walk;
 mod witness;
 

@@ -1,21 +1,20 @@
 // Meeting a step: by the chain of its prefix, or by its witness.
-ghost use Rattle.std.specs.Prelude.{◌≡◌, ◌≤◌, ◌++◌, [], false, IfOk, OnOk};
-ghost use Rattle.sr_base.specs.Literal.{compl};
-ghost use Rattle.sr_model.specs.Substitution.{has_pair, substitution_for, IsPivot};
-ghost use Rattle.sr_model.specs.Chain.{clauses, chain};
+ghost use Rattle.std.specs.Prelude.{◌≡◌, ◌≤◌, false, IfOk};
+ghost use Rattle.sr_model.specs.Substitution.{has_pair, substitution, substitution_for, IsPivot};
+ghost use Rattle.sr_model.specs.Chain.{clauses};
 ghost use Rattle.sr_model.specs.Meeting.{no_groups, witness_meets, meets_over, meets};
 ghost use Rattle.sr_check.specs.Indexing.{IsClear, IsIndex};
 ghost use Rattle.sr_check.specs.Ready.{IsReady};
 ghost use Rattle.sr_check.specs.Trail.{CoversClauses};
-ghost use Rattle.sr_check.specs.Ends.{chain_end, meeting_of, KeepsFront};
+ghost use Rattle.sr_check.specs.Ends.{meeting_of};
 
-use crate::chains::{End, follow};
+use crate::chains::{End, refute};
 use crate::groups::{build, forget};
 use crate::live::LiveClauses;
 use crate::marks::Marks;
 use crate::pages::Table;
 use crate::witness::{Trial, meet_witness};
-use sr_base::{Cause, Items, Lit, NoMemory};
+use sr_base::{Cause, Lit, LitList, NoMemory};
 use sr_wit::{Group, Step, Subst};
 use std::alloc::Global;
 
@@ -26,13 +25,14 @@ pub enum Meet {
     Unmet(Cause),
 }
 
-/// What is needed besides the clauses while a step is met: marks, and a table for its groups. Both are clear between
-/// steps.
+/// What is needed besides the clauses while a step is met: marks, a table for its groups, and room for what is left of
+/// a clause. Marks and table are clear between steps.
 #[derive(Drop)]
 pub struct Scratch {
     pub alloc: Global,
     pub marks: Marks,
     pub index: Table,
+    pub left: LitList,
 }
 
 /// How a step is met.
@@ -133,58 +133,37 @@ fn try_witness(
     ensures index { scratch.new.index ≡ scratch.old.index }
     ensures room { scratch.old.marks.room ≤ scratch.new.marks.room }
 {
-    let mut left = Items::new(scratch.alloc);
     let groups = step.groups().as_slice();
-    let index = &scratch.index;
     match step.witness() {
-        Some(subst) => {
-            let trial = Trial {
-                strict,
-                live,
-                subst,
-                groups,
-                index,
-            };
-            meet_witness(&trial, &mut scratch.marks, &mut left)
-        }
+        Some(subst) => try_subst(strict, live, scratch, subst, groups),
         None => {
-            let subst = &Subst::pivot_only(scratch.alloc, pivot)?;
-            let trial = Trial {
-                strict,
-                live,
-                subst,
-                groups,
-                index,
-            };
-            meet_witness(&trial, &mut scratch.marks, &mut left)
+            let subst = Subst::pivot_only(scratch.alloc, pivot)?;
+            try_subst(strict, live, scratch, &subst, groups)
         }
     }
 }
 
-/// Assumes the complements of literals, and follows hints.
-pub fn refute(
+/// How a step is met by a substitution.
+fn try_subst(
     strict: bool,
     live: &LiveClauses,
-    marks: &mut Marks,
-    lits: &[Lit],
-    hints: &[u32],
-) -> Result<End, NoMemory>
-    requires { CoversClauses marks.old.room (clauses live.now) }
-    ensures end { IfOk result (λ e. chain strict live.now (marks.old.lits ++ compl lits.now) hints.now ≡ chain_end e marks.new.lits) }
-    ensures open { IfOk result (λ e. e ≡ End.Unclosed → has_pair marks.new.lits ≡ false) }
-    ensures front { KeepsFront marks.old marks.new }
+    scratch: &mut Scratch,
+    subst: &Subst,
+    groups: &[Group],
+) -> Result<Meet, NoMemory>
+    requires index { IsIndex scratch.old.index live.now groups.now }
+    requires no_pair { has_pair scratch.old.marks.lits ≡ false }
+    requires room { CoversClauses scratch.old.marks.room (clauses live.now) }
+    ensures met { IfOk result (λ m. witness_meets strict live.now scratch.old.marks.lits (substitution subst.now) groups.now ≡ meeting_of m) }
+    ensures index { scratch.new.index ≡ scratch.old.index }
+    ensures room { scratch.old.marks.room ≤ scratch.new.marks.room }
 {
-    assume(marks, lits)?;
-    follow(strict, live, marks, hints)
-}
-
-/// Assumes the complements of literals.
-pub fn assume(marks: &mut Marks, lits: &[Lit]) -> Result<(), NoMemory>
-    ensures ok { OnOk result (marks.new.lits ≡ marks.old.lits ++ compl lits.now) }
-    ensures front { KeepsFront marks.old marks.new }
-{
-    for l in lits {
-        marks.add(l.neg())?;
-    }
-    Ok(())
+    let trial = Trial {
+        strict,
+        live,
+        subst,
+        groups,
+        index: &scratch.index,
+    };
+    meet_witness(&trial, &mut scratch.marks, &mut scratch.left)
 }

@@ -8,11 +8,11 @@ ghost use Rattle.sr_check.specs.Trail.{CoversClauses};
 ghost use Rattle.sr_check.specs.Indexing.{IsIndex, IsLive};
 ghost use Rattle.sr_check.specs.Ends.{meeting_of};
 
-use crate::chains::End;
+use crate::chains::{End, assume, refute};
 use crate::groups::hints_for;
 use crate::live::LiveClauses;
 use crate::marks::Marks;
-use crate::meeting::{Meet, assume, refute};
+use crate::meeting::Meet;
 use crate::pages::Table;
 use sr_base::{Cause, Lit, LitList, NoMemory};
 use sr_wit::{Group, Reduced, Subst};
@@ -126,7 +126,7 @@ fn meet_one(
     if trial.subst.reduce(lits, left)? != Reduced::Left {
         return Ok(Meet::Met);
     }
-    let hints = hints_for(trial.index, trial.live, trial.groups, number);
+    let hints = hints_for(trial.index, trial.groups, number);
     let len = marks.len();
     let end = refute(trial.strict, trial.live, marks, left.as_slice(), hints);
     marks.cut(len);

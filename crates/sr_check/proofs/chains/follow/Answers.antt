@@ -1,4 +1,4 @@
-use Rattle.std.proofs.Common.{refl, arith, get_or, [], ◌∙◌, ap, sym}
+use Rattle.std.proofs.Common.{refl, arith, get_or, [], ◌∙◌, ap}
 use Rattle.sr_model.specs.Chain.{clauses}
 use Rattle.sr_check.specs.Ends.{chain_end}
 use Rattle.sr_check.proofs.Following.{clauses_more, follow_step, front_add, closed_somehow}

@@ -1,6 +1,5 @@
-use Rattle.std.proofs.Common.{sym, ◌∙◌, ap}
+use Rattle.std.proofs.Common.{sym, ◌∙◌}
 use Rattle.sr_model.specs.Chain.{open_literals}
-use Rattle.sr_check.specs.Ends.{open_end}
 use Rattle.sr_check.proofs.Following.{covered_clause, hint_dead, hint_at, nothing_open, one_open, more_open}
 use Rattle.sr_check.proofs.chains.follow_one.Goals as goal
 

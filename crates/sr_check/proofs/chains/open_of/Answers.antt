@@ -1,4 +1,4 @@
-use Rattle.std.proofs.Common.{◌≡◌, arith, true, false, sym, ◌∙◌, ap}
+use Rattle.std.proofs.Common.{◌≡◌, arith, true, false, sym, ◌∙◌}
 use Rattle.std.specs.Prelude.{is_some}
 use Rattle.sr_base.specs.Literal.{complement, has}
 use Rattle.sr_check.proofs.Marking.{code_within}

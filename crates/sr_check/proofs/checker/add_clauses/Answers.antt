@@ -1,9 +1,6 @@
-use Rattle.std.proofs.Common.{arith, sym, ◌≡◌, ◌∙◌, ◌+◌, ◌-◌, ap, subst, [], get_or, take, List, ℕ}
+use Rattle.std.proofs.Common.{arith, ◌≡◌, ◌∙◌, ◌+◌, ◌-◌, ap, [], get_or, take, ℕ}
 use Rattle.std.proofs.lemmas.List.{take_all, get_or_default}
-use Rattle.sr_base.specs.Literal.{Literal}
 use Rattle.sr_model.specs.Chain.{clauses}
-use Rattle.sr_model.specs.Judging.{numbered_from}
-use Rattle.sr_check.specs.Trail.{CoversClauses}
 use Rattle.sr_check.proofs.Checks.{added_absent, added_small, added_more, numbered_clauses}
 use Rattle.sr_check.proofs.checker.add_clauses.Goals as goal
 

@@ -1,4 +1,4 @@
-use Rattle.std.proofs.Common.{arith, ◌∙◌, ◌+◌, ap, subst, refl}
+use Rattle.std.proofs.Common.{arith, ◌∙◌, ◌+◌, subst, refl}
 use Rattle.sr_check.specs.Indexing.{Notes}
 use Rattle.sr_check.proofs.Grouping.{index_more, within_more, holds_take}
 use Rattle.sr_check.proofs.groups.build.Goals as goal

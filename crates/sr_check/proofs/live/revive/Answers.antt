@@ -1,6 +1,5 @@
 use Rattle.std.proofs.Common.{arith, ◌∙◌, ◌-◌, ap, refl, length, get_or, true}
-use Rattle.std.proofs.lemmas.List.{length-set}
-use Rattle.sr_check.specs.Storage.{with_live, place_at}
+use Rattle.sr_check.specs.Storage.{with_live}
 use Rattle.sr_check.proofs.Storing.{revived_more, length-with_live}
 use Rattle.sr_check.proofs.live.revive.Goals as goal
 

@@ -1,6 +1,5 @@
-use Rattle.std.proofs.Common.{◌≡◌, ◌≤◌, ◌<◌, ℕ, List, take, length}
+use Rattle.std.proofs.Common.{◌≡◌, ◌≤◌, List, take, length}
 use Rattle.sr_check.specs.declared.live.Place.{Place}
-use Rattle.sr_check.specs.Pages.{entry}
 use Rattle.sr_check.specs.Storage.{AreDropped}
 use Rattle.sr_check.proofs.live.revive.Given as goal
 

@@ -1,6 +1,5 @@
-use Rattle.std.proofs.Common.{arith, ◌≡◌, ◌+◌, ◌-◌, ◌∙◌, ap, subst, set, length, false}
-use Rattle.sr_base.specs.Literal.{literal_code, complement}
-use Rattle.sr_check.specs.Trail.{lits_of, IsTableOf}
+use Rattle.std.proofs.Common.{arith, ◌-◌, ◌∙◌, ap, length, false}
+use Rattle.sr_base.specs.Literal.{literal_code}
 use Rattle.std.proofs.lemmas.List.{length-set}
 use Rattle.sr_check.proofs.Marking.{undone_within, undone_new, undone_old}
 use Rattle.sr_check.proofs.marks.undo.Goals as goal

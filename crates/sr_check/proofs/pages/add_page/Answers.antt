@@ -1,4 +1,4 @@
-use Rattle.std.proofs.Common.{◌≡◌, ◌+◌, ◌-◌, ◌++◌, ℕ, vec_len, arith, ◌∙◌, ap, take, replicate, length}
+use Rattle.std.proofs.Common.{◌≡◌, ◌+◌, ◌-◌, ◌++◌, vec_len, arith, ◌∙◌, ap, replicate}
 use Rattle.std.proofs.lemmas.List.{take_all}
 use Rattle.sr_check.proofs.pages.add_page.Goals as goal
 

@@ -1,4 +1,4 @@
-use Rattle.std.proofs.Common.{◌≡◌, ◌<◌, ◌/◌, ◌++◌, ℕ, arith, ◌∙◌, sym, ap, length, get_or, set, replicate}
+use Rattle.std.proofs.Common.{◌≡◌, ◌<◌, ◌/◌, arith, ◌∙◌, sym, ap, length, get_or, set}
 use Rattle.std.proofs.lemmas.List.{get_or_default}
 use Rattle.sr_check.specs.Pages.{paged, entry, IsPaged}
 use Rattle.sr_check.proofs.Paging.{paged_reach, entry_reach, entry_make}

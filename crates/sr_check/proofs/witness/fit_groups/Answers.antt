@@ -1,11 +1,9 @@
-use Rattle.std.proofs.Common.{◌≡◌, ◌∙◌, ◌+◌, ℕ, true, false, cond, List, Some, arith, sym, ap, subst}
-use Rattle.std.specs.Prelude.{is_some, [], Option}
-use Rattle.sr_base.specs.Literal.{Literal}
-use Rattle.sr_base.specs.declared.names.Cause.TheVariants.{GroupSpare, GroupTwice}
+use Rattle.std.proofs.Common.{◌≡◌, ◌∙◌, ◌+◌, true, false, Some, arith, sym, ap}
+use Rattle.std.specs.Prelude.{is_some}
 use Rattle.sr_model.specs.Substitution.{substitution, reduction}
 use Rattle.sr_model.specs.Chain.{clause_of}
-use Rattle.sr_model.specs.Meeting.{unmet, met, needs_hints, groups_fit}
-use Rattle.sr_check.specs.Indexing.{IsLive, place_from}
+use Rattle.sr_model.specs.Meeting.{needs_hints}
+use Rattle.sr_check.specs.Indexing.{place_from}
 use Rattle.sr_check.proofs.Fitting.{fit_twice, fit_unneeded, fit_more}
 use Rattle.sr_check.proofs.witness.fit_groups.Goals as goal
 

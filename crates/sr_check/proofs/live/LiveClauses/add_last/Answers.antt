@@ -1,4 +1,4 @@
-use Rattle.std.proofs.Common.{◌≡◌, ◌++◌, ◌+◌, ◌∷◌, [], ◌∙◌, sym, ap, arith, refl, false, length}
+use Rattle.std.proofs.Common.{◌++◌, ◌∷◌, [], ◌∙◌, sym, ap, arith, refl, false, length}
 use Rattle.sr_model.specs.Chain.{clauses, clause_of}
 use Rattle.sr_model.specs.Judging.{cells_of}
 use Rattle.std.proofs.lemmas.List.{append-nil}

@@ -1,5 +1,4 @@
-use Rattle.std.proofs.Common.{◌≡◌, ◌∙◌, ◌+◌, ◌-◌, sym, ap, take, drop, Some, List}
-use Rattle.sr_base.specs.Literal.{Literal}
+use Rattle.std.proofs.Common.{◌∙◌, ◌+◌, ◌-◌, sym, ap, take, drop, Some}
 use Rattle.sr_model.specs.Chain.{clause_of}
 use Rattle.sr_check.proofs.Storing.{read_none, read_some}
 use Rattle.sr_check.proofs.live.LiveClauses.get.Goals as goal

@@ -1,9 +1,8 @@
-use Rattle.std.proofs.Common.{arith, ◌≡◌, ◌∙◌, sym, ap, subst, refl, get_or, take, true, false, not, Bool, List, ℕ, drop, None, Some, ◌+◌, ◌-◌, ◌∷◌, []}
+use Rattle.std.proofs.Common.{arith, ◌≡◌, ◌∙◌, sym, ap, subst, refl, get_or, take, true, false, not, Bool, List, ℕ, ◌+◌, ◌∷◌, []}
 use Rattle.sr_base.specs.Literal.{Literal}
-use Rattle.sr_model.specs.Chain.{Numbered, clause_of}
 use Rattle.sr_model.specs.Judging.{without, first_dead}
 use Rattle.sr_check.specs.Pages.{entry}
-use Rattle.sr_check.specs.Storage.{part, live_of, place_at, with_live, AreDropped, AreLive}
+use Rattle.sr_check.specs.Storage.{live_of, place_at, with_live, AreDropped}
 use Rattle.sr_check.proofs.Storing.{place_read, read_none, read_some, dead_counts, dead_stored, dead_view, dropped_more, first_dead_more, first_dead_here}
 use Rattle.sr_check.proofs.Dropping.{without_none, without_more}
 use Rattle.sr_check.proofs.live.LiveClauses.remove_each.Goals as goal

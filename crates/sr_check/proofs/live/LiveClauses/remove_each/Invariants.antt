@@ -1,7 +1,5 @@
-use Rattle.std.proofs.Common.{◌≡◌, List, take, drop}
-use Rattle.sr_base.specs.Literal.{Literal}
+use Rattle.std.proofs.Common.{◌≡◌, take, drop}
 use Rattle.sr_model.specs.Judging.{without, first_dead}
-use Rattle.sr_check.specs.declared.live.Place.{Place}
 use Rattle.sr_check.specs.Storage.{live_of, AreDropped, IsStored}
 use Rattle.sr_check.proofs.live.LiveClauses.remove_each.Given as goal
 

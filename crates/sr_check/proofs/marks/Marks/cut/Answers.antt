@@ -1,4 +1,4 @@
-use Rattle.std.proofs.Common.{◌≡◌, ℕ, List, ◌∙◌, sym, ap, subst, take, length, false}
+use Rattle.std.proofs.Common.{◌≡◌, ℕ, List, ◌∙◌, ap, take, length}
 use Rattle.sr_base.specs.Literal.{Literal}
 use Rattle.sr_model.specs.Substitution.{has_pair}
 use Rattle.sr_check.specs.Trail.{lits_of, Marking}

@@ -1,5 +1,4 @@
-use Rattle.std.proofs.Common.{◌≡◌, [], ◌++◌, ◌∙◌, ap, subst, replicate, List, ℕ, sym, get_or, ◌+◌, ◌*◌, ◌/◌, ◌%◌}
-use Rattle.sr_check.specs.Pages.{IsPaged, entry}
+use Rattle.std.proofs.Common.{◌≡◌, [], ◌++◌, ◌∙◌, ap, replicate, get_or, ◌+◌, ◌*◌, ◌/◌, ◌%◌}
 use Rattle.sr_check.proofs.Paging.{paged_none, zeros_are_zero}
 use Rattle.sr_check.proofs.pages.Table.new.Goals as goal
 
