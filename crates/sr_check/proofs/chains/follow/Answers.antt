@@ -1,0 +1,17 @@
+use Rattle.std.proofs.Common.{refl, arith, get_or, [], ◌∙◌, ap}
+use Rattle.sr_model.specs.Chain.{clauses}
+use Rattle.sr_check.specs.Ends.{chain_end}
+use Rattle.sr_check.proofs.Following.{clauses_more, follow_step, front_add, closed_somehow}
+use Rattle.sr_check.proofs.chains.follow.Goals as goal
+
+pub follow_one-requires : goal.follow_one-requires
+follow_one-requires c = clauses_more c.args.marks.now.room c.loop-i.marks.room (clauses c.args.live.now) c.loop-i.invariant.front.room c.requires
+
+pub loop-i-preserved : goal.loop-i-preserved
+loop-i-preserved c = record {
+  followed = follow_step c.args.strict c.args.live.now c.args.marks.now.lits c.loop-i.marks.lits c.add.new.self.lits c.args.hints.now c.loop-i.i (get_or c.args.hints.now c.loop-i.i 0) c.in-Adds.l (omega arith) refl c.loop-i.invariant.followed c.in-Adds.ensures c.in_ok-add-in-Adds.ensures.ok;
+  front = front_add c.args.marks.now c.loop-i.marks c.add.new.self c.in-Adds.l c.loop-i.invariant.front c.in_ok-add-in-Adds.ensures.ok c.in_ok-add-in-Adds.ensures.room;
+}
+
+pub returns-then-has_pair-clause-open : goal.returns-then-has_pair-clause-open
+returns-then-has_pair-clause-open c e = absurd (closed_somehow c.args.strict c.args.hints.now [] (c.closed_before.ensures [] ∙ ap (λ x. chain_end x []) e))

@@ -1,0 +1,10 @@
+use Rattle.std.proofs.Common.{drop}
+use Rattle.sr_check.specs.Ends.{KeepsFront}
+use Rattle.sr_check.proofs.Following.{IsFollowed}
+use Rattle.sr_check.proofs.chains.follow.Given as goal
+
+abbrev pub invariant-loop-i : goal.invariant-loop-i
+invariant-loop-i l = record {
+  followed : IsFollowed l.strict l.live l.fn.marks.lits l.marks.lits l.hints (drop l.i l.hints);
+  front : KeepsFront l.fn.marks l.marks;
+}

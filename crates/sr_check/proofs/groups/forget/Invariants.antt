@@ -1,0 +1,8 @@
+use Rattle.std.proofs.Common.{◌≡◌, ℕ, drop, false}
+use Rattle.sr_model.specs.Assignment.{holds_number}
+use Rattle.sr_check.specs.Pages.{entry}
+use Rattle.sr_check.specs.Indexing.{numbers}
+use Rattle.sr_check.proofs.groups.forget.Given as goal
+
+abbrev pub invariant-loop-group : goal.invariant-loop-group
+invariant-loop-group l = (n : ℕ) → holds_number n (numbers (drop l.group-index l.groups)) ≡ false → entry l.index n ≡ 0

@@ -1,0 +1,45 @@
+-- What contracts see of a checker: whether it checks strictly, the most cells that it may hold, and its state.
+use Rattle.std.specs.Prelude.{ℕ, ◌+◌, ◌<◌, ◌≤◌, nat_lt, Bool, true, false, not, ◌&&◌, List, [], ◌∷◌, ◌++◌}
+use Rattle.sr_base.specs.Literal.{Literal}
+use Rattle.sr_model.specs.Refutation.{is_empty}
+use Rattle.sr_model.specs.Chain.{Numbered, clauses}
+use Rattle.sr_model.specs.Meeting.{Meeting, met, unmet}
+use Rattle.sr_model.specs.Judging.{Item, stepped, dropped, State, item_meets, clause_cells, cells_of}
+use Rattle.sr_model.specs.declared.verdict.Verdict.{Verdict}
+use Rattle.sr_check.specs.declared.meeting.Scratch.{Scratch}
+use Rattle.sr_check.specs.Ready.{IsReady}
+use Rattle.sr_check.specs.Trail.{CoversClauses}
+
+pub record Checking : Type 0 where
+  pub strict : Bool
+  pub most : ℕ
+  pub state : State
+
+abbrev pub checking : Bool → ℕ → Numbered → ℕ → Verdict → Checking
+checking strict most live last verdict = record { strict = strict; most = most; state = record { live = record { clauses = live; last = last }; verdict = verdict } }
+
+abbrev pub is_met : Meeting → Bool
+is_met met = true
+is_met (unmet x) = false
+
+-- the item is a step that is met, its clause isn't empty, and with it the live clauses count too many cells
+abbrev pub passes_cells : Checking → Item → Bool
+passes_cells c (stepped s) = is_met (item_meets c.strict c.state.live (stepped s)) && (not (is_empty s.clause) && nat_lt c.most (cells_of (clauses c.state.live.clauses) + clause_cells s.clause))
+passes_cells c (dropped id ids) = false
+
+-- a clause becomes live under a new number
+abbrev pub added : Checking → ℕ → List Literal → Checking
+added c id lits = checking c.strict c.most (c.state.live.clauses ++ (id, lits) ∷ []) id c.state.verdict
+
+-- each number is below a bound
+abbrev pub AreBelow : ℕ → Numbered → Type 0
+AreBelow bound [] = Unit {0}
+AreBelow bound (p ∷ ps) = (p.0 < bound) × AreBelow bound ps
+
+-- what a checker keeps
+pub record KeepsChecking (most : ℕ) (live : Numbered) (last : ℕ) (scratch : Scratch) : Type 0 where
+  pub ready : IsReady scratch
+  pub below : AreBelow (last + 1) live
+  pub room : CoversClauses scratch.marks.room (clauses live)
+  pub cells : cells_of (clauses live) ≤ most
+  pub limit : most ≤ 268435456

@@ -1,0 +1,134 @@
+// Following hints (after LRAT): a hint names a clause all of whose literals but one are false, and the one that is left
+// follows. One pass over the clause finds it, and ends early at a second one.
+ghost use Rattle.std.specs.Prelude.{◌≡◌, ◌++◌, false, List, IfOk, OnOk};
+ghost use Rattle.sr_base.specs.Literal.{Literal, compl};
+ghost use Rattle.sr_model.specs.Substitution.{has_pair};
+ghost use Rattle.sr_model.specs.Chain.{clauses, open_literals, hint, closes_before, chain};
+ghost use Rattle.sr_check.specs.Trail.{CoversAll, CoversClauses};
+ghost use Rattle.sr_check.specs.Ends.{open_end, hint_end, chain_end, KeepsFront};
+
+use crate::live::LiveClauses;
+use crate::marks::Marks;
+use sr_base::{Cause, Lit, NoMemory};
+
+/// The literals of a clause that aren't false.
+enum Open {
+    Nothing,
+    One(Lit),
+    More,
+}
+
+/// What one hint does.
+enum Hint {
+    Closes,
+    Adds(Lit),
+    Misleads(Cause),
+}
+
+/// How a chain ends; where it is unclosed the literals are those of the marks.
+#[derive(Clone, Copy)]
+pub enum End {
+    Closed,
+    Unclosed,
+    Faulty(Cause),
+}
+
+/// Assumes the complements of literals, and follows hints.
+pub fn refute(
+    strict: bool,
+    live: &LiveClauses,
+    marks: &mut Marks,
+    lits: &[Lit],
+    hints: &[u32],
+) -> Result<End, NoMemory>
+    requires { CoversClauses marks.old.room (clauses live.now) }
+    ensures end { IfOk result (λ e. chain strict live.now (marks.old.lits ++ compl lits.now) hints.now ≡ chain_end e marks.new.lits) }
+    ensures open { IfOk result (λ e. e ≡ End.Unclosed → has_pair marks.new.lits ≡ false) }
+    ensures front { KeepsFront marks.old marks.new }
+{
+    assume(marks, lits)?;
+    follow(strict, live, marks, hints)
+}
+
+/// Assumes the complements of literals.
+pub fn assume(marks: &mut Marks, lits: &[Lit]) -> Result<(), NoMemory>
+    ensures ok { OnOk result (marks.new.lits ≡ marks.old.lits ++ compl lits.now) }
+    ensures front { KeepsFront marks.old marks.new }
+{
+    for l in lits {
+        marks.add(l.neg())?;
+    }
+    Ok(())
+}
+
+/// Follows hints in order. Strict checking refuses a hint that stands after the conflict.
+fn follow(
+    strict: bool,
+    live: &LiveClauses,
+    marks: &mut Marks,
+    hints: &[u32],
+) -> Result<End, NoMemory>
+    requires { CoversClauses marks.old.room (clauses live.now) }
+    ensures end { IfOk result (λ e. chain strict live.now marks.old.lits hints.now ≡ chain_end e marks.new.lits) }
+    ensures open { IfOk result (λ e. e ≡ End.Unclosed → has_pair marks.new.lits ≡ false) }
+    ensures front { KeepsFront marks.old marks.new }
+{
+    if marks.has_pair() {
+        return Ok(closed_before(strict, hints));
+    }
+    for (i, number) in hints.iter().enumerate() {
+        match follow_one(live, marks, *number) {
+            Hint::Closes => return Ok(closed_before(strict, &hints[i + 1..])),
+            Hint::Adds(l) => marks.add(l)?,
+            Hint::Misleads(cause) => return Ok(End::Faulty(cause)),
+        }
+    }
+    Ok(End::Unclosed)
+}
+
+/// How a chain ends that closes with these hints left.
+fn closed_before(strict: bool, left: &[u32]) -> End
+    ensures { (b : List Literal) → closes_before strict left.now ≡ chain_end result b }
+{
+    match left {
+        [next, ..] if strict => End::Faulty(Cause::HintAfter(*next)),
+        _ => End::Closed,
+    }
+}
+
+/// What a hint does.
+#[inline]
+fn follow_one(live: &LiveClauses, marks: &Marks, number: u32) -> Hint
+    requires { CoversClauses marks.now.room (clauses live.now) }
+    ensures { hint_end result ≡ hint live.now marks.now.lits number }
+{
+    match live.get(number) {
+        None => Hint::Misleads(Cause::DeadHint(number)),
+        Some(lits) => match open_of(marks, lits) {
+            Open::Nothing => Hint::Closes,
+            Open::One(l) => Hint::Adds(l),
+            Open::More => Hint::Misleads(Cause::NotUnit(number)),
+        },
+    }
+}
+
+/// The literals that aren't false.
+#[inline]
+fn open_of(marks: &Marks, lits: &[Lit]) -> Open
+    requires { CoversAll marks.now.room lits.now }
+    ensures { result ≡ open_end (open_literals marks.now.lits lits.now) }
+{
+    let mut found = None;
+    for l in lits {
+        if !marks.is_false(*l) {
+            if found.is_some() {
+                return Open::More;
+            }
+            found = Some(*l);
+        }
+    }
+    match found {
+        None => Open::Nothing,
+        Some(l) => Open::One(l),
+    }
+}

@@ -1,0 +1,18 @@
+//! The checker of proofs by hints.
+//!
+//! It takes the items of a proof one by one, and keeps the clauses that are live and the verdict.
+#![tactic(auto)]
+
+mod chains;
+mod checker;
+mod groups;
+mod live;
+mod marks;
+mod meeting;
+mod pages;
+#[cfg(test)]
+mod tests;
+mod walk;
+mod witness;
+
+pub use checker::{Checker, TakeStop};
