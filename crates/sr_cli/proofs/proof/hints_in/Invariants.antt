@@ -1,0 +1,7 @@
+use Rattle.std.proofs.Common.{◌≡◌, take}
+use Rattle.std.specs.Prelude.{sum_by}
+use Rattle.sr_cli.specs.Check.{group_hints}
+use Rattle.sr_cli.proofs.proof.hints_in.Given as goal
+
+abbrev pub invariant-loop-group : goal.invariant-loop-group
+invariant-loop-group l = l.hints ≡ sum_by group_hints (take l.group-index l.groups)

@@ -1,0 +1,23 @@
+-- The commands, as the parser of command lines sees them.
+use Rattle.std.specs.Prelude.{true, Some, codes}
+use Rattle.clap.specs.Words.{App, Rule, Text, new_app, new_rule, with_rule}
+use Rattle.clap.specs.Simple.{Shape, on_top}
+use Rattle.clap.specs.declared.builder.ArgAction.TheVariants.{Set, SetTrue}
+
+abbrev pub positional_rule : Text → Rule
+positional_rule id = record (new_rule id) { required = true; action = Some Set }
+
+abbrev pub option_rule : Text → Rule
+option_rule id = record (new_rule id) { long = Some id; action = Some Set }
+
+abbrev pub flag_rule : Text → Rule
+flag_rule id = record (new_rule id) { long = Some id; action = Some SetTrue }
+
+-- the words begin with no program's name
+abbrev pub bare_app : Text → App
+bare_app name = on_top (λ (s : Shape). record s { no_binary_name = true }) (new_app name)
+
+abbrev pub check_app : App
+check_app = with_rule (with_rule (with_rule (with_rule (with_rule (bare_app (codes "check"))
+    (positional_rule (codes "FORMULA"))) (positional_rule (codes "PROOF")))
+    (option_rule (codes "proof-form"))) (flag_rule (codes "strict"))) (flag_rule (codes "stats"))

@@ -1,0 +1,12 @@
+//! The top call: it reads the words, runs the command on the outside, reports, and answers the outcome.
+#![tactic(auto)]
+
+mod check;
+mod files;
+mod proof;
+mod report;
+mod running;
+mod words;
+
+pub use running::{run, run_with};
+pub use sr_emit::{Outcome, UsageKind};

@@ -1,0 +1,63 @@
+// The top call: from the words to the outcome.
+ghost use Rattle.std.specs.Prelude.{◌≡◌, map, string_bytes};
+ghost use Rattle.sr_base.specs.Limits.{shipped};
+ghost use Rattle.sr_cli.specs.Words.{asked, checks, said};
+ghost use Rattle.sr_cli.specs.Run.{Runs, IsSound, HasRunCause, OnlyReadsFiles};
+
+use crate::check::check_files;
+use crate::report::report;
+use crate::words::{CheckWords, WordsStop, read_words};
+use sr_base::Limits;
+use sr_desk::Desk;
+use sr_emit::{Command, Outcome};
+use std::alloc::Global;
+
+/// Runs the command that the words ask for, with the limits that the program ships with.
+///
+/// The words are those of the command line without the program's name. The first file that is begun has the slot 0 of
+/// the desk, the second one the slot 1. What was found is reported on standard output, but for want of memory.
+pub fn run<D: Desk>(alloc: Global, words: &[String], desk: &mut D) -> Outcome
+    requires { (D.outside desk.old).begun ≡ 0 }
+    ensures runs { Runs shipped (asked (map string_bytes words.now)) (D.outside desk.old) (D.outside desk.new) result }
+    ensures sound { IsSound shipped (D.outside desk.old) (asked (map string_bytes words.now)) result }
+    ensures cause { HasRunCause (D.outside desk.old) (D.outside desk.new) result }
+    ensures only { OnlyReadsFiles (D.outside desk.old) (D.outside desk.new) }
+{
+    run_with(alloc, &Limits::shipped(), words, desk)
+}
+
+/// Runs the command with limits of one's own.
+pub fn run_with<D: Desk>(alloc: Global, limits: &Limits, words: &[String], desk: &mut D) -> Outcome
+    requires { (D.outside desk.old).begun ≡ 0 }
+    ensures runs { Runs limits.now (asked (map string_bytes words.now)) (D.outside desk.old) (D.outside desk.new) result }
+    ensures sound { IsSound limits.now (D.outside desk.old) (asked (map string_bytes words.now)) result }
+    ensures cause { HasRunCause (D.outside desk.old) (D.outside desk.new) result }
+    ensures only { OnlyReadsFiles (D.outside desk.old) (D.outside desk.new) }
+{
+    match read_words(alloc, words) {
+        Err(WordsStop::NoMemory) => Outcome::NoMemory,
+        Err(WordsStop::Refused(kind)) => {
+            report(alloc, Command::Other, None, Outcome::Usage(kind), desk)
+        }
+        Ok(said) => run_check(alloc, limits, &said, desk),
+    }
+}
+
+/// Runs `check`.
+fn run_check<D: Desk>(
+    alloc: Global,
+    limits: &Limits,
+    asked_for: &CheckWords<'_>,
+    desk: &mut D,
+) -> Outcome
+    requires { (D.outside desk.old).begun ≡ 0 }
+    ensures runs { Runs limits.now (checks (said asked_for.now)) (D.outside desk.old) (D.outside desk.new) result }
+    ensures sound { IsSound limits.now (D.outside desk.old) (checks (said asked_for.now)) result }
+    ensures cause { HasRunCause (D.outside desk.old) (D.outside desk.new) result }
+    ensures only { OnlyReadsFiles (D.outside desk.old) (D.outside desk.new) }
+{
+    let found = check_files(alloc, limits, asked_for, desk);
+    let all = found.counts;
+    let counts = if asked_for.stats { Some(&all) } else { None };
+    report(alloc, Command::Check, counts, found.outcome, desk)
+}

@@ -1,0 +1,21 @@
+//! What `sr` answers on worked inputs, over files in memory: no code, only tests of the top call.
+#![tactic(auto)]
+
+#[cfg(test)]
+mod case;
+#[cfg(test)]
+mod formulas;
+#[cfg(test)]
+mod hints;
+#[cfg(test)]
+mod limits;
+#[cfg(test)]
+mod numbers;
+#[cfg(test)]
+mod outside;
+#[cfg(test)]
+mod plain;
+#[cfg(test)]
+mod strict;
+#[cfg(test)]
+mod words;
