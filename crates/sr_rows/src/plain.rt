@@ -1,5 +1,8 @@
 // Proofs by hints without witnesses.
 use crate::case::{Case, FOUR, FOUR_PROOF, all_answer};
+use sr_base::{Clause, Lit, LitList};
+use sr_model::refutes_plain;
+use std::alloc::Global;
 use std::test::Fail;
 
 const VERIFIED: &str = "s VERIFIED UNSAT\n";
@@ -93,4 +96,25 @@ fn deletions_of_what_is_not_live_change_nothing(rt: HostRuntime) -> Result<(), F
             Case::four("4 d 0\n5 2 0 1 2 0\n5 d 1 2 0\n6 0 5 3 4 0\n", 0, VERIFIED),
         ],
     )
+}
+
+fn clause(alloc: Global, numbers: &[i64]) -> Result<Clause, Fail> {
+    let mut lits = LitList::new(alloc);
+    for x in numbers {
+        lits.push(Lit::new(*x).ok_or("no literal")?)?;
+    }
+    Ok(Clause::from_lits(alloc, lits.as_slice())?)
+}
+
+#[test]
+fn propagation_refutes_with_a_literal_and_not_without(rt: HostRuntime) -> Result<(), Fail> {
+    let alloc = rt.alloc();
+    let mut clauses: Vec<Clause> = Vec::new(alloc);
+    for numbers in [[1, 2], [-1, 2], [1, -2], [-1, -2]] {
+        clauses.push(clause(alloc, &numbers)?)?;
+    }
+    let false_two = Lit::new(-2).ok_or("no literal")?;
+    assert!(rt; refutes_plain(alloc, clauses.as_slice(), &[false_two])?);
+    assert!(rt; !refutes_plain(alloc, clauses.as_slice(), &[])?);
+    Ok(())
 }
