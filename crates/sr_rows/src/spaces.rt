@@ -64,6 +64,6 @@ fn the_limit_of_bytes_ends_what_has_no_end(rt: HostRuntime) -> Result<(), Fail> 
     };
     let outcome = run_with(alloc, &limits, words.as_slice(), &mut desk);
     assert_eq!(rt; outcome.status(), 4);
-    assert!(rt; desk.printed.as_slice() == b"e limit formula bytes\n");
+    assert!(rt; desk.printed.as_slice() == b"e limit formula bytes\n".as_slice());
     Ok(())
 }
