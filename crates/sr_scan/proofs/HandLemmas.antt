@@ -166,7 +166,7 @@ parts bytes start len word le blank l =
       bytes_are = rw (sum, take-add start (len + 1) bytes, take_more (drop start bytes) len 0 lt, f.token) refl;
     }
 
-stands : (old new : Option Texts) (place : ℕ) (w : Word) → is_end w ≡ false
+pub stands : (old new : Option Texts) (place : ℕ) (w : Word) → is_end w ≡ false
     → ((all : Texts) → old ≡ Some all → (rest : Texts) × (all ≡ next (record { place = place; word = w }) rest) × (new ≡ Some rest)) → StandsFirst old new place w
 stands old new place (word.Number n) e h = h
 stands old new place word.Add e h = h

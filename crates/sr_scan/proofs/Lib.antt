@@ -9,3 +9,4 @@ pub mod NumberLemmas
 pub mod BinaryLemmas
 pub mod ValueLemmas
 pub mod AgainLemmas
+pub mod StreamLemmas

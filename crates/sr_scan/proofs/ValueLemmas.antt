@@ -58,7 +58,7 @@ pub token-number : (room place : ℕ) (bytes : List ℕ) → 0 < length bytes �
 token-number room place [] some = absurd (omega arith)
 token-number room place (b ∷ bs) some = refl
 
-value-not_end : (v : ℕ) (w : Word) → value_word v ≡ Ok w → is_end w ≡ false
+pub value-not_end : (v : ℕ) (w : Word) → value_word v ≡ Ok w → is_end w ≡ false
 value-not_end v w h = go (nat_lt v (2 ^ 64)) refl (v == 1) refl (v % 2 == 0) refl
   where
     go : (a : Bool) → nat_lt v (2 ^ 64) ≡ a → (b : Bool) → (v == 1) ≡ b → (c : Bool) → (v % 2 == 0) ≡ c → is_end w ≡ false

@@ -6,6 +6,7 @@ use Rattle.sr_base.specs.declared.names.TextKind.TheVariants.{BadNumber, BadWord
 use Rattle.sr_model.specs.declared.tokens.Word.{Word}
 use Rattle.sr_model.specs.declared.tokens.Word.TheVariants as word
 use Rattle.sr_model.specs.declared.tokens.Token.{Token}
+use Rattle.sr_model.specs.Texts.{Texts, finished, stopped, over, next}
 
 -- the value at the front, and the bytes after it; or what stands against it
 pub data ValueRead : Type 0 where
@@ -82,3 +83,30 @@ spelled_value (suc more) v = if nat_lt v 128 then v ∷ [] else (128 + v % 128) 
 -- the shortest spelling of a number whose value has 64 bits
 abbrev pub number_bytes : ℤ → List ℕ
 number_bytes z = spelled_value 9 (value_of z)
+
+-- how many lists follow, after a word: so many after an addition, one after a deletion, and `0` ends one
+abbrev pub lists_after : ℕ → ℕ → Word → ℕ
+lists_after adds lists word.Add = adds
+lists_after adds lists word.Del = 1
+lists_after adds lists (word.Number (pos zero)) = lists - 1
+lists_after adds lists w = lists
+
+abbrev pub first_then : ℕ → Word → Texts → Texts
+first_then place word.End rest = finished place
+first_then place w rest = next (record { place = place; word = w }) rest
+
+abbrev pub texts_by : TokenRead → (Token → List ℕ → Texts) → Texts
+texts_by (reads t rest) more = first_then t.place t.word (more t rest)
+texts_by (misspells kind place) more = stopped kind place
+texts_by passes more = over
+
+-- the tokens of the bytes from a place on, of which so many may be read; an item begins where no list follows; at most so many tokens
+unfoldable pub binary_texts : ℕ → ℕ → ℕ → ℕ → ℕ → List ℕ → Texts
+binary_texts zero adds lists room place bytes = over
+binary_texts (suc most) adds lists room place bytes =
+    texts_by (token_at (lists == 0) room place bytes) (λ t rest.
+    binary_texts most adds (lists_after adds lists t.word) (room - (length bytes - length rest)) (place + (length bytes - length rest)) rest)
+
+-- the tokens of a binary file whose additions have so many lists; there are at most as many as bytes, and the end
+abbrev pub binary_spelled : ℕ → ℕ → ℕ → ℕ → List ℕ → Texts
+binary_spelled adds lists room place bytes = binary_texts (suc (length bytes)) adds lists room place bytes

@@ -1,5 +1,5 @@
 -- The binary tokens that a reader gives.
-use Rattle.std.specs.Prelude.{◌≡◌, ℕ, ◌+◌, ◌-◌, ◌<◌, ◌≤◌, ◌^◌, Bool, false, List, [], ◌++◌, length, take, Some, Result, Ok, Err, slice_index, ◌==◌, if◌then◌else◌}
+use Rattle.std.specs.Prelude.{◌≡◌, ℕ, ◌+◌, ◌-◌, ◌<◌, ◌≤◌, ◌^◌, Bool, false, List, [], ◌++◌, length, take, Some, Result, Ok, Err, slice_index, ◌==◌, if◌then◌else◌, option_map, Option}
 use Rattle.sr_desk.specs.Outside.{Outside, Rose}
 use Rattle.sr_desk.specs.Reader.{Reader}
 use Rattle.sr_desk.specs.Next.{remaining, IsSameReader}
@@ -8,12 +8,13 @@ use Rattle.sr_base.specs.declared.names.TextKind.TheVariants.{BadWord, Unended}
 use Rattle.sr_model.specs.declared.tokens.Word.{Word}
 use Rattle.sr_model.specs.declared.tokens.Word.TheVariants as word
 use Rattle.sr_model.specs.declared.tokens.Token.{Token}
+use Rattle.sr_model.specs.Texts.{Texts, stopped, over}
 use Rattle.sr_scan.specs.declared.token.ScanStop.{ScanStop}
 use Rattle.sr_scan.specs.declared.token.ScanStop.TheVariants as stop
 use Rattle.sr_scan.specs.declared.binary.ValueStop.{ValueStop}
 use Rattle.sr_scan.specs.declared.binary.ValueStop.TheVariants.{Long, Ends, Limit, Fault}
-use Rattle.sr_scan.specs.Binary.{ValueRead, value, long, ends, limited, value_at, TokenRead, reads, misspells, passes, token_at}
-use Rattle.sr_scan.specs.Left.{Advances}
+use Rattle.sr_scan.specs.Binary.{ValueRead, value, long, ends, limited, value_at, TokenRead, reads, misspells, passes, token_at, lists_after, binary_spelled}
+use Rattle.sr_scan.specs.Left.{Advances, Are, StandsFirst}
 
 -- a token was read, and these bytes are left
 pub record ReadsToken (old new : Reader) (after : Outside) (bytes : List ℕ) (this : TokenRead) (t : Token) : Type 0 where
@@ -97,3 +98,18 @@ item_answer b place =
 
 abbrev pub end_answer : ℕ → ℕ → Result Token ScanStop
 end_answer place end = if place == end then Ok (record { place = place; word = word.End }) else Err (stop.Text Unended end)
+
+-- the tokens that are left to a reader of a binary file, where its bytes are told
+abbrev pub binary_left : ℕ → ℕ → Reader → Outside → Option Texts
+binary_left adds lists r o = option_map (binary_spelled adds lists (r.limit - r.taken) r.taken) (remaining r o)
+
+abbrev pub GivesFirst : ℕ → ℕ → Reader → Reader → Outside → Outside → Result Token ScanStop → Type 0
+GivesFirst adds lists old new before after (Ok t) =
+    StandsFirst (binary_left adds lists old before) (binary_left adds (lists_after adds lists t.word) new after) t.place t.word
+GivesFirst adds lists old new before after (Err (stop.Text kind place)) = Are (binary_left adds lists old before) (stopped kind place)
+GivesFirst adds lists old new before after (Err stop.Limit) = Are (binary_left adds lists old before) over
+GivesFirst adds lists old new before after (Err stop.Fault) = Unit {0}
+
+-- the answer is the first of the tokens that are left, whatever lists follow
+abbrev pub GivesBinaryToken : Bool → Reader → Reader → Outside → Outside → Result Token ScanStop → Type 0
+GivesBinaryToken at_start old new before after result = (adds lists : ℕ) → at_start ≡ (lists == 0) → GivesFirst adds lists old new before after result

@@ -3,7 +3,7 @@ ghost use Rattle.std.specs.Prelude.{◌≡◌, ◌-◌, ◌<◌, ◌≤◌, ◌^
 ghost use Rattle.sr_desk.specs.Outside.{OnlyReads};
 ghost use Rattle.sr_desk.specs.Next.{IsSameReader};
 ghost use Rattle.sr_scan.specs.Binary.{value_word};
-ghost use Rattle.sr_scan.specs.BinaryLeft.{GivesValue, HasValueCause, GivesBinary, TakesNumber, answer_of, item_answer, end_answer};
+ghost use Rattle.sr_scan.specs.BinaryLeft.{GivesValue, HasValueCause, GivesBinary, GivesBinaryToken, TakesNumber, answer_of, item_answer, end_answer};
 ghost use Rattle.sr_scan.specs.Left.{HasScanCause, Advances};
 
 use crate::ScanStop;
@@ -199,6 +199,7 @@ pub fn binary_item<D: Desk>(
     requires { IsTrue ((D.outside desk.old).slot reader.old.slot).reads }
     ensures advances { IfOk result (λ t. Advances reader.old reader.new t.word) }
     ensures token { GivesBinary at_start reader.old reader.new (D.outside desk.old) (D.outside desk.new) result }
+    ensures first { GivesBinaryToken at_start reader.old reader.new (D.outside desk.old) (D.outside desk.new) result }
     ensures same { IsSameReader reader.old reader.new }
     ensures only { OnlyReads reader.old.slot (D.outside desk.old) (D.outside desk.new) }
     ensures cause { HasScanCause reader.old.slot (D.outside desk.old) (D.outside desk.new) result }

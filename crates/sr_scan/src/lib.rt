@@ -11,7 +11,11 @@ mod value;
 mod write;
 
 pub use binary::binary_item;
-pub use laws::machine_spells;
+pub use laws::{
+    binary_numbers_read_again, machine_spells, spelling_is_shortest, text_numbers_read_again,
+    token_stands_first,
+};
+pub use sr_model::{Token, Word};
 pub use text::text_item;
 pub use token::ScanStop;
 pub use write::{put_number_binary, put_number_text};
