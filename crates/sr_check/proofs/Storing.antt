@@ -8,7 +8,7 @@ use Rattle.sr_model.specs.Chain.{Numbered, clauses, clause_of}
 use Rattle.sr_model.specs.Judging.{without, first_dead, clause_cells, cells_of}
 use Rattle.sr_check.specs.declared.live.Place.{Place}
 use Rattle.sr_check.specs.Pages.{Paged, entry, Sets, SameEntries}
-use Rattle.sr_check.specs.Storage.{part, live_of, nowhere, place_at, said, with_live, dead_each, AreLive, AreDropped, weight, weights, IsStored}
+use Rattle.sr_check.specs.Storage.{part, AreApart, live_of, nowhere, place_at, said, with_live, dead_each, AreLive, AreDropped, weight, weights, IsStored}
 use Rattle.sr_check.proofs.Paging.{by_eq}
 use Rattle.sr_check.proofs.Marking.{by_test}
 
@@ -397,3 +397,35 @@ first_dead_here live ns i n now h is s inv =
 
 pub length-with_live : (ps : List Place) (i : ℕ) (b : Bool) → length (with_live ps i b) ≡ length ps
 length-with_live ps i b = length-set ps i (said (place_at ps i) b)
+
+-- the numbers of live places are apart
+pub apart_live : (lits : List Literal) (ps : List Place) → ((i j : ℕ) → (place_at ps i).live ≡ true → (place_at ps j).live ≡ true → (place_at ps i).id ≡ (place_at ps j).id → i ≡ j) → AreApart (live_of lits ps)
+apart_live lits [] h = tt
+apart_live lits (p ∷ ps) h =
+    let rest : AreApart (live_of lits ps) = apart_live lits ps (λ i j l m e. let s : suc i ≡ suc j = h (suc i) (suc j) l m e in omega arith) in
+    by_test p.live
+    (λ t. rw t (absent lits ps p.id (λ j l e. let z : suc j ≡ 0 = h (suc j) 0 l t e in omega arith), rest))
+    (λ f. rw f rest)
+
+pub apart_stored : (lits : List Literal) (ps : List Place) (table : Paged) (cells : ℕ) → IsStored lits ps table cells → AreApart (live_of lits ps)
+apart_stored lits ps table cells s = apart_live lits ps (λ i j l m e. sym (s.finds i l) ∙ ap (entry table) e ∙ s.finds j m)
+
+pub apart_front : (xs ys : Numbered) (n : ℕ) (c : List Literal) → AreApart (xs ++ (n, c) ∷ ys) → clause_of xs n ≡ None
+apart_front [] ys n c a = refl
+apart_front (x ∷ xs) ys n c a = by_test (x.0 == n)
+    (λ t. absurd (later xs x.0 (grind (arith, nat_tests)) a.0))
+    (λ f. rw f (apart_front xs ys n c a.1))
+  where
+    later : (zs : Numbered) (m : ℕ) → n ≡ m → clause_of (zs ++ (n, c) ∷ ys) m ≡ None → ⊥
+    later [] m e h = let t : (n == m) ≡ true = grind (arith, nat_tests) in let s : Some c ≡ None = rw t at h in cc
+    later (z ∷ zs) m e h = by_test (z.0 == m)
+        (λ t. let s : Some z.1 ≡ None = rw t at h in cc)
+        (λ f. later zs m e (rw f at h))
+
+-- the clauses in front, with the next one
+pub front_cells : (xs ys : Numbered) (n : ℕ) (c : List Literal) → cells_of (clauses xs) + clause_cells c ≤ cells_of (clauses (xs ++ (n, c) ∷ ys))
+front_cells [] ys n c = let sum : cells_of (c ∷ clauses ys) ≡ clause_cells c + cells_of (clauses ys) = sum_by-cons clause_cells c (clauses ys) in rw sum (omega arith)
+front_cells (x ∷ xs) ys n c =
+    let low : cells_of (x.1 ∷ clauses xs) ≡ clause_cells x.1 + cells_of (clauses xs) = sum_by-cons clause_cells x.1 (clauses xs) in
+    let high : cells_of (x.1 ∷ clauses (xs ++ (n, c) ∷ ys)) ≡ clause_cells x.1 + cells_of (clauses (xs ++ (n, c) ∷ ys)) = sum_by-cons clause_cells x.1 (clauses (xs ++ (n, c) ∷ ys)) in
+    rw (low, high) (omega (arith, front_cells xs ys n c))

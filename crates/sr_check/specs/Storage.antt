@@ -2,7 +2,7 @@
 use Rattle.std.specs.Prelude.{ℕ, ◌+◌, ◌<◌, ◌≤◌, ◌≡◌, Bool, true, false, cond, List, [], ◌∷◌, length, take, drop, slice_index_or, slice_set, Option, Some, None}
 use Rattle.std.specs.Borrow.{Bor}
 use Rattle.sr_base.specs.Literal.{Literal}
-use Rattle.sr_model.specs.Chain.{Numbered}
+use Rattle.sr_model.specs.Chain.{Numbered, clause_of}
 use Rattle.sr_check.specs.declared.live.Place.{Place}
 use Rattle.sr_check.specs.Pages.{Paged, entry}
 
@@ -24,6 +24,11 @@ place_at ps i = slice_index_or ps i nowhere
 -- the literals of each place are there
 abbrev pub ArePlaces : List Literal → List Place → Type 0
 ArePlaces lits ps = (i : ℕ) → (place_at ps i).start + (place_at ps i).len ≤ length lits
+
+-- no number comes twice
+abbrev pub AreApart : Numbered → Type 0
+AreApart [] = Unit {0}
+AreApart (p ∷ ps) = (clause_of ps p.0 ≡ None) × AreApart ps
 
 -- the clause that a walk comes to
 abbrev pub taken : Option (ℕ × Bor (List Literal)) → Numbered

@@ -193,6 +193,7 @@ impl Checker {
             self.verdict = Verdict::Rejected { id, cause };
             return self.verdict;
         }
+        self.live.tidy(self.scratch.alloc);
         self.verdict
     }
 }
