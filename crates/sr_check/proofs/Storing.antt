@@ -8,7 +8,7 @@ use Rattle.sr_model.specs.Chain.{Numbered, clauses, clause_of}
 use Rattle.sr_model.specs.Judging.{without, first_dead, clause_cells, cells_of}
 use Rattle.sr_check.specs.declared.live.Place.{Place}
 use Rattle.sr_check.specs.Pages.{Paged, entry, Sets, SameEntries}
-use Rattle.sr_check.specs.Storage.{part, live_of, nowhere, place_at, with_live, dead_each, AreLive, AreDropped, weight, weights, IsStored}
+use Rattle.sr_check.specs.Storage.{part, AreApart, live_of, nowhere, place_at, said, with_live, dead_each, AreLive, AreDropped, weight, weights, IsStored}
 use Rattle.sr_check.proofs.Paging.{by_eq}
 use Rattle.sr_check.proofs.Marking.{by_test}
 
@@ -76,13 +76,16 @@ weights-append [] qs = omega arith
 weights-append (p ∷ ps) qs = omega (arith, weights-append ps qs)
 
 -- a place in a list with one more at the end
-pub place_push : (ps : List Place) (p : Place) (i : ℕ) → ((i < length ps) × (place_at (ps ++ p ∷ []) i ≡ place_at ps i)) ⊎ (((i ≡ length ps) × (place_at (ps ++ p ∷ []) i ≡ p)) ⊎ (place_at (ps ++ p ∷ []) i ≡ nowhere))
+abbrev pub PushCases : List Place → Place → ℕ → Type 0
+PushCases ps p i = ((i < length ps) × (place_at (ps ++ p ∷ []) i ≡ place_at ps i)) ⊎ (((i ≡ length ps) × (place_at (ps ++ p ∷ []) i ≡ p)) ⊎ (place_at (ps ++ p ∷ []) i ≡ nowhere))
+
+pub place_push : (ps : List Place) (p : Place) (i : ℕ) → PushCases ps p i
 place_push [] p zero = inr (inl (refl, refl))
 place_push [] p (suc i) = inr (inr refl)
 place_push (q ∷ ps) p zero = inl (omega arith, refl)
 place_push (q ∷ ps) p (suc i) = at (place_push ps p i)
   where
-    at : ((i < length ps) × (place_at (ps ++ p ∷ []) i ≡ place_at ps i)) ⊎ (((i ≡ length ps) × (place_at (ps ++ p ∷ []) i ≡ p)) ⊎ (place_at (ps ++ p ∷ []) i ≡ nowhere))
+    at : PushCases ps p i
         → ((suc i < length (q ∷ ps)) × (place_at (ps ++ p ∷ []) i ≡ place_at ps i)) ⊎ (((suc i ≡ length (q ∷ ps)) × (place_at (ps ++ p ∷ []) i ≡ p)) ⊎ (place_at (ps ++ p ∷ []) i ≡ nowhere))
     at (inl x) = inl (omega arith, x.1)
     at (inr (inl x)) = inr (inl (omega arith, x.1))
@@ -90,7 +93,6 @@ place_push (q ∷ ps) p (suc i) = at (place_push ps p i)
 
 pub stored_more : (lits more : List Literal) (ps : List Place) (table : Paged) (cells : ℕ) → IsStored lits ps table cells → IsStored (lits ++ more) ps table cells
 stored_more lits more ps table cells s = record {
-  first = s.first;
   within = λ i. omega (arith, s.within i, length-append lits more);
   finds = s.finds;
   names = s.names;
@@ -100,7 +102,6 @@ stored_more lits more ps table cells s = record {
 
 pub stored_same : (lits : List Literal) (ps : List Place) (table table' : Paged) (cells : ℕ) → IsStored lits ps table cells → SameEntries table table' → IsStored lits ps table' cells
 stored_same lits ps table table' cells s same = record {
-  first = s.first;
   within = s.within;
   finds = λ i l. same (place_at ps i).id ∙ s.finds i l;
   names = λ n. rw (same n) (s.names n);
@@ -111,7 +112,6 @@ stored_same lits ps table table' cells s same = record {
 -- a place is put at the end, dead at first
 pub stored_dead : (lits : List Literal) (ps : List Place) (p : Place) (table : Paged) (cells : ℕ) → p.live ≡ false → p.start + p.len ≤ length lits → IsStored lits ps table cells → IsStored lits (ps ++ p ∷ []) table cells
 stored_dead lits ps p table cells dead fits s = record {
-  first = at_first (place_push ps p 0);
   within = λ i. at_within i (place_push ps p i);
   finds = λ i. at_finds i (place_push ps p i);
   names = λ n. at_names n (place_push ps p (entry table n));
@@ -119,24 +119,19 @@ stored_dead lits ps p table cells dead fits s = record {
   counts = let none : weight p ≡ 0 = rw dead refl in omega (arith, s.counts, weights-append ps (p ∷ []));
 }
   where
-    at_first : ((0 < length ps) × (place_at (ps ++ p ∷ []) 0 ≡ place_at ps 0)) ⊎ (((0 ≡ length ps) × (place_at (ps ++ p ∷ []) 0 ≡ p)) ⊎ (place_at (ps ++ p ∷ []) 0 ≡ nowhere)) → (place_at (ps ++ p ∷ []) 0).live ≡ false
-    at_first (inl x) = ap (λ (q : Place). q.live) x.1 ∙ s.first
-    at_first (inr (inl x)) = ap (λ (q : Place). q.live) x.1 ∙ dead
-    at_first (inr (inr x)) = ap (λ (q : Place). q.live) x
-
-    at_within : (i : ℕ) → ((i < length ps) × (place_at (ps ++ p ∷ []) i ≡ place_at ps i)) ⊎ (((i ≡ length ps) × (place_at (ps ++ p ∷ []) i ≡ p)) ⊎ (place_at (ps ++ p ∷ []) i ≡ nowhere))
+    at_within : (i : ℕ) → PushCases ps p i
         → (place_at (ps ++ p ∷ []) i).start + (place_at (ps ++ p ∷ []) i).len ≤ length lits
     at_within i (inl x) = rw x.1 (s.within i)
     at_within i (inr (inl x)) = rw x.1 fits
     at_within i (inr (inr x)) = rw x (omega arith)
 
-    at_finds : (i : ℕ) → ((i < length ps) × (place_at (ps ++ p ∷ []) i ≡ place_at ps i)) ⊎ (((i ≡ length ps) × (place_at (ps ++ p ∷ []) i ≡ p)) ⊎ (place_at (ps ++ p ∷ []) i ≡ nowhere))
+    at_finds : (i : ℕ) → PushCases ps p i
         → (place_at (ps ++ p ∷ []) i).live ≡ true → entry table (place_at (ps ++ p ∷ []) i).id ≡ i
     at_finds i (inl x) = rw x.1 (s.finds i)
     at_finds i (inr (inl x)) = rw x.1 (λ l. absurd cc)
     at_finds i (inr (inr x)) = rw x (λ l. absurd cc)
 
-    at_names : (n : ℕ) → ((entry table n < length ps) × (place_at (ps ++ p ∷ []) (entry table n) ≡ place_at ps (entry table n))) ⊎ (((entry table n ≡ length ps) × (place_at (ps ++ p ∷ []) (entry table n) ≡ p)) ⊎ (place_at (ps ++ p ∷ []) (entry table n) ≡ nowhere))
+    at_names : (n : ℕ) → PushCases ps p (entry table n)
         → (place_at (ps ++ p ∷ []) (entry table n)).live ≡ true → (place_at (ps ++ p ∷ []) (entry table n)).id ≡ n
     at_names n (inl x) = rw x.1 (s.names n)
     at_names n (inr (inl x)) = rw x.1 (λ l. absurd cc)
@@ -153,7 +148,6 @@ live_push lits more ps p l s n h =
 pub stored_push : (lits : List Literal) (ps : List Place) (p : Place) (table table' : Paged) (cells cells' : ℕ) → p.live ≡ true → p.start + p.len ≤ length lits → IsStored lits ps table cells
     → IsAbsent ps p.id → Sets table table' p.id (length ps) → cells' ≡ cells + (p.len + 4) → IsStored lits (ps ++ p ∷ []) table' cells'
 stored_push lits ps p table table' cells cells' live fits s none sets sum = record {
-  first = at_first (place_push ps p 0);
   within = λ i. at_within i (place_push ps p i);
   finds = λ i. at_finds i (place_push ps p i);
   names = λ n. by_eq p.id n (λ e. here n e) (λ ne. there n ne);
@@ -170,18 +164,13 @@ stored_push lits ps p table table' cells cells' live fits s none sets sum = reco
     some : 0 < length ps
     some = omega (arith, s.known 0)
 
-    at_first : ((0 < length ps) × (place_at (ps ++ p ∷ []) 0 ≡ place_at ps 0)) ⊎ (((0 ≡ length ps) × (place_at (ps ++ p ∷ []) 0 ≡ p)) ⊎ (place_at (ps ++ p ∷ []) 0 ≡ nowhere)) → (place_at (ps ++ p ∷ []) 0).live ≡ false
-    at_first (inl x) = ap (λ (q : Place). q.live) x.1 ∙ s.first
-    at_first (inr (inl x)) = absurd (omega (arith, x.0, s.known 0))
-    at_first (inr (inr x)) = ap (λ (q : Place). q.live) x
-
-    at_within : (i : ℕ) → ((i < length ps) × (place_at (ps ++ p ∷ []) i ≡ place_at ps i)) ⊎ (((i ≡ length ps) × (place_at (ps ++ p ∷ []) i ≡ p)) ⊎ (place_at (ps ++ p ∷ []) i ≡ nowhere))
+    at_within : (i : ℕ) → PushCases ps p i
         → (place_at (ps ++ p ∷ []) i).start + (place_at (ps ++ p ∷ []) i).len ≤ length lits
     at_within i (inl x) = rw x.1 (s.within i)
     at_within i (inr (inl x)) = rw x.1 fits
     at_within i (inr (inr x)) = rw x (omega arith)
 
-    at_finds : (i : ℕ) → ((i < length ps) × (place_at (ps ++ p ∷ []) i ≡ place_at ps i)) ⊎ (((i ≡ length ps) × (place_at (ps ++ p ∷ []) i ≡ p)) ⊎ (place_at (ps ++ p ∷ []) i ≡ nowhere))
+    at_finds : (i : ℕ) → PushCases ps p i
         → (place_at (ps ++ p ∷ []) i).live ≡ true → entry table' (place_at (ps ++ p ∷ []) i).id ≡ i
     at_finds i (inl x) = rw x.1 (λ l. there_entry (place_at ps i).id (λ e. none i l (sym e)) ∙ s.finds i l)
     at_finds i (inr (inl x)) = rw x.1 (λ l. here_entry p.id refl ∙ sym x.0)
@@ -200,9 +189,12 @@ with_live_last ps p q i e is =
     rw last (set_at ps p [] (record { start = p.start; len = p.len; id = p.id; live = true }) i (sym e) ∙ ap (λ x. ps ++ x ∷ []) (sym is))
 
 -- one place is said to be live or dead
-pub place_with : (ps : List Place) (i : ℕ) (b : Bool) (j : ℕ) → i < length ps → ((j ≡ i) × (place_at (with_live ps i b) j ≡ record { start = (place_at ps i).start; len = (place_at ps i).len; id = (place_at ps i).id; live = b })) ⊎ ((j ≢ i) × (place_at (with_live ps i b) j ≡ place_at ps j))
+abbrev pub WithCases : List Place → ℕ → Bool → ℕ → Type 0
+WithCases ps i b j = ((j ≡ i) × (place_at (with_live ps i b) j ≡ said (place_at ps i) b)) ⊎ ((j ≢ i) × (place_at (with_live ps i b) j ≡ place_at ps j))
+
+pub place_with : (ps : List Place) (i : ℕ) (b : Bool) (j : ℕ) → i < length ps → WithCases ps i b j
 place_with ps i b j h =
-    let p : Place = record { start = (place_at ps i).start; len = (place_at ps i).len; id = (place_at ps i).id; live = b } in
+    let p : Place = said (place_at ps i) b in
     by_eq j i
     (λ e. inl (e, rw e (get_or-set_same ps i p nowhere h)))
     (λ ne. inr (ne, get_or-set_other ps i j p nowhere ne))
@@ -236,33 +228,27 @@ without_one lits (p ∷ ps) n (suc i) o l e =
 
 pub stored_without : (lits : List Literal) (ps : List Place) (table : Paged) (cells i : ℕ) → (place_at ps i).live ≡ true → IsStored lits ps table cells → IsStored lits (with_live ps i false) table (cells - ((place_at ps i).len + 4))
 stored_without lits ps table cells i live s = record {
-  first = at_first (place_with ps i false 0 within);
   within = λ j. at_within j (place_with ps i false j within);
   finds = λ j. at_finds j (place_with ps i false j within);
   names = λ n. at_names n (place_with ps i false (entry table n) within);
-  known = λ n. omega (arith, s.known n, length-set ps i (record { start = (place_at ps i).start; len = (place_at ps i).len; id = (place_at ps i).id; live = false }));
+  known = λ n. omega (arith, s.known n, length-set ps i (said (place_at ps i) false));
   counts = omega (arith, s.counts, weights_dead ps i live);
 }
   where
     within : i < length ps
     within = live_within ps i live
 
-    at_first : ((0 ≡ i) × (place_at (with_live ps i false) 0 ≡ record { start = (place_at ps i).start; len = (place_at ps i).len; id = (place_at ps i).id; live = false })) ⊎ ((0 ≢ i) × (place_at (with_live ps i false) 0 ≡ place_at ps 0))
-        → (place_at (with_live ps i false) 0).live ≡ false
-    at_first (inl x) = ap (λ (q : Place). q.live) x.1
-    at_first (inr x) = ap (λ (q : Place). q.live) x.1 ∙ s.first
-
-    at_within : (j : ℕ) → ((j ≡ i) × (place_at (with_live ps i false) j ≡ record { start = (place_at ps i).start; len = (place_at ps i).len; id = (place_at ps i).id; live = false })) ⊎ ((j ≢ i) × (place_at (with_live ps i false) j ≡ place_at ps j))
+    at_within : (j : ℕ) → WithCases ps i false j
         → (place_at (with_live ps i false) j).start + (place_at (with_live ps i false) j).len ≤ length lits
     at_within j (inl x) = rw x.1 (s.within i)
     at_within j (inr x) = rw x.1 (s.within j)
 
-    at_finds : (j : ℕ) → ((j ≡ i) × (place_at (with_live ps i false) j ≡ record { start = (place_at ps i).start; len = (place_at ps i).len; id = (place_at ps i).id; live = false })) ⊎ ((j ≢ i) × (place_at (with_live ps i false) j ≡ place_at ps j))
+    at_finds : (j : ℕ) → WithCases ps i false j
         → (place_at (with_live ps i false) j).live ≡ true → entry table (place_at (with_live ps i false) j).id ≡ j
     at_finds j (inl x) = rw x.1 (λ l. absurd cc)
     at_finds j (inr x) = rw x.1 (s.finds j)
 
-    at_names : (n : ℕ) → ((entry table n ≡ i) × (place_at (with_live ps i false) (entry table n) ≡ record { start = (place_at ps i).start; len = (place_at ps i).len; id = (place_at ps i).id; live = false })) ⊎ ((entry table n ≢ i) × (place_at (with_live ps i false) (entry table n) ≡ place_at ps (entry table n)))
+    at_names : (n : ℕ) → WithCases ps i false (entry table n)
         → (place_at (with_live ps i false) (entry table n)).live ≡ true → (place_at (with_live ps i false) (entry table n)).id ≡ n
     at_names n (inl x) = rw x.1 (λ l. absurd cc)
     at_names n (inr x) = rw x.1 (s.names n)
@@ -379,12 +365,12 @@ dropped_more table ps qs ns i n h is d l =
 -- a place that was live is said to be dead and then to be live
 pub live_again : (ps : List Place) (i : ℕ) → (place_at ps i).live ≡ true → with_live (with_live ps i false) i true ≡ ps
 live_again ps i l =
-    let dead : Place = record { start = (place_at ps i).start; len = (place_at ps i).len; id = (place_at ps i).id; live = false } in
+    let dead : Place = said (place_at ps i) false in
     let here : place_at (with_live ps i false) i ≡ dead = get_or-set_same ps i dead nowhere (live_within ps i l) in
-    let again : record { start = (place_at ps i).start; len = (place_at ps i).len; id = (place_at ps i).id; live = true } ≡ place_at ps i =
-    ap (λ (b : Bool). let p : Place = record { start = (place_at ps i).start; len = (place_at ps i).len; id = (place_at ps i).id; live = b } in p) (sym l) in
+    let again : said (place_at ps i) true ≡ place_at ps i =
+    ap (λ (b : Bool). let p : Place = said (place_at ps i) b in p) (sym l) in
     ap (λ (p : Place). set (with_live ps i false) i (record { start = p.start; len = p.len; id = p.id; live = true })) here
-    ∙ set-set ps i dead (record { start = (place_at ps i).start; len = (place_at ps i).len; id = (place_at ps i).id; live = true })
+    ∙ set-set ps i dead (said (place_at ps i) true)
     ∙ ap (set ps i) again ∙ set-get_or ps i nowhere
 
 -- the step of the loop that revives
@@ -410,4 +396,36 @@ first_dead_here live ns i n now h is s inv =
     sym (inv ∙ ap (first_dead now) split ∙ rw (s, first_dead) refl)
 
 pub length-with_live : (ps : List Place) (i : ℕ) (b : Bool) → length (with_live ps i b) ≡ length ps
-length-with_live ps i b = length-set ps i (record { start = (place_at ps i).start; len = (place_at ps i).len; id = (place_at ps i).id; live = b })
+length-with_live ps i b = length-set ps i (said (place_at ps i) b)
+
+-- the numbers of live places are apart
+pub apart_live : (lits : List Literal) (ps : List Place) → ((i j : ℕ) → (place_at ps i).live ≡ true → (place_at ps j).live ≡ true → (place_at ps i).id ≡ (place_at ps j).id → i ≡ j) → AreApart (live_of lits ps)
+apart_live lits [] h = tt
+apart_live lits (p ∷ ps) h =
+    let rest : AreApart (live_of lits ps) = apart_live lits ps (λ i j l m e. let s : suc i ≡ suc j = h (suc i) (suc j) l m e in omega arith) in
+    by_test p.live
+    (λ t. rw t (absent lits ps p.id (λ j l e. let z : suc j ≡ 0 = h (suc j) 0 l t e in omega arith), rest))
+    (λ f. rw f rest)
+
+pub apart_stored : (lits : List Literal) (ps : List Place) (table : Paged) (cells : ℕ) → IsStored lits ps table cells → AreApart (live_of lits ps)
+apart_stored lits ps table cells s = apart_live lits ps (λ i j l m e. sym (s.finds i l) ∙ ap (entry table) e ∙ s.finds j m)
+
+pub apart_front : (xs ys : Numbered) (n : ℕ) (c : List Literal) → AreApart (xs ++ (n, c) ∷ ys) → clause_of xs n ≡ None
+apart_front [] ys n c a = refl
+apart_front (x ∷ xs) ys n c a = by_test (x.0 == n)
+    (λ t. absurd (later xs x.0 (grind (arith, nat_tests)) a.0))
+    (λ f. rw f (apart_front xs ys n c a.1))
+  where
+    later : (zs : Numbered) (m : ℕ) → n ≡ m → clause_of (zs ++ (n, c) ∷ ys) m ≡ None → ⊥
+    later [] m e h = let t : (n == m) ≡ true = grind (arith, nat_tests) in let s : Some c ≡ None = rw t at h in cc
+    later (z ∷ zs) m e h = by_test (z.0 == m)
+        (λ t. let s : Some z.1 ≡ None = rw t at h in cc)
+        (λ f. later zs m e (rw f at h))
+
+-- the clauses in front, with the next one
+pub front_cells : (xs ys : Numbered) (n : ℕ) (c : List Literal) → cells_of (clauses xs) + clause_cells c ≤ cells_of (clauses (xs ++ (n, c) ∷ ys))
+front_cells [] ys n c = let sum : cells_of (c ∷ clauses ys) ≡ clause_cells c + cells_of (clauses ys) = sum_by-cons clause_cells c (clauses ys) in rw sum (omega arith)
+front_cells (x ∷ xs) ys n c =
+    let low : cells_of (x.1 ∷ clauses xs) ≡ clause_cells x.1 + cells_of (clauses xs) = sum_by-cons clause_cells x.1 (clauses xs) in
+    let high : cells_of (x.1 ∷ clauses (xs ++ (n, c) ∷ ys)) ≡ clause_cells x.1 + cells_of (clauses (xs ++ (n, c) ∷ ys)) = sum_by-cons clause_cells x.1 (clauses (xs ++ (n, c) ∷ ys)) in
+    rw (low, high) (omega (arith, front_cells xs ys n c))

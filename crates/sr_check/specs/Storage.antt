@@ -2,7 +2,7 @@
 use Rattle.std.specs.Prelude.{ℕ, ◌+◌, ◌<◌, ◌≤◌, ◌≡◌, Bool, true, false, cond, List, [], ◌∷◌, length, take, drop, slice_index_or, slice_set, Option, Some, None}
 use Rattle.std.specs.Borrow.{Bor}
 use Rattle.sr_base.specs.Literal.{Literal}
-use Rattle.sr_model.specs.Chain.{Numbered}
+use Rattle.sr_model.specs.Chain.{Numbered, clause_of}
 use Rattle.sr_check.specs.declared.live.Place.{Place}
 use Rattle.sr_check.specs.Pages.{Paged, entry}
 
@@ -25,14 +25,22 @@ place_at ps i = slice_index_or ps i nowhere
 abbrev pub ArePlaces : List Literal → List Place → Type 0
 ArePlaces lits ps = (i : ℕ) → (place_at ps i).start + (place_at ps i).len ≤ length lits
 
+-- no number comes twice
+abbrev pub AreApart : Numbered → Type 0
+AreApart [] = Unit {0}
+AreApart (p ∷ ps) = (clause_of ps p.0 ≡ None) × AreApart ps
+
 -- the clause that a walk comes to
 abbrev pub taken : Option (ℕ × Bor (List Literal)) → Numbered
 taken None = []
 taken (Some p) = (p.0, p.1.now) ∷ []
 
 -- one place is said to be live, or to be dead
+abbrev pub said : Place → Bool → Place
+said p b = record { start = p.start; len = p.len; id = p.id; live = b }
+
 abbrev pub with_live : List Place → ℕ → Bool → List Place
-with_live ps i b = let p = place_at ps i in slice_set ps i (record { start = p.start; len = p.len; id = p.id; live = b })
+with_live ps i b = slice_set ps i (said (place_at ps i) b)
 
 -- the places of numbers are said to be dead, one after another
 abbrev pub dead_each : Paged → List Place → List ℕ → List Place
@@ -57,7 +65,6 @@ weights (p ∷ ps) = weight p + weights ps
 
 -- the table leads from the number of each live place to it, and from all other numbers to places that are dead
 pub record IsStored (lits : List Literal) (ps : List Place) (table : Paged) (cells : ℕ) : Type 0 where
-  pub first : (place_at ps 0).live ≡ false
   pub within : ArePlaces lits ps
   pub finds : (i : ℕ) → (place_at ps i).live ≡ true → entry table (place_at ps i).id ≡ i
   pub names : (n : ℕ) → (place_at ps (entry table n)).live ≡ true → (place_at ps (entry table n)).id ≡ n

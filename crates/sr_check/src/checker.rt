@@ -18,7 +18,7 @@ use std::alloc::Global;
 use std::marker::Model;
 use thiserror::Error;
 
-/// Why an item isn't taken.
+/// Why an item isn't taken. The checker is then as it was.
 #[derive(Clone, Copy, Debug, PartialEq, Eq, Error)]
 pub enum TakeStop {
     /// The clauses would be held in more cells than the limit.
@@ -40,6 +40,9 @@ impl From<NoMemory> for TakeStop {
 }
 
 /// A checker of a proof by hints, which takes the items of the proof one by one.
+///
+/// Contracts see whether it checks strictly, the most cells that it may hold, and its state: the live clauses under their
+/// numbers, the greatest number so far, and the verdict.
 #[derive(Drop)]
 pub struct Checker {
     strict: bool,
@@ -193,6 +196,7 @@ impl Checker {
             self.verdict = Verdict::Rejected { id, cause };
             return self.verdict;
         }
+        self.live.tidy(self.scratch.alloc);
         self.verdict
     }
 }

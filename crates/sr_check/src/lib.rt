@@ -16,3 +16,4 @@ mod walk;
 mod witness;
 
 pub use checker::{Checker, TakeStop};
+pub use sr_model::Verdict;

@@ -1,13 +1,13 @@
 // The clauses that are live. The literals of all clauses lie one after another, each clause has a place that says where
 // its literals are, and a table leads from numbers to places. A clause that is dropped keeps its literals and its place,
-// which is only marked as dead.
+// which is only marked as dead, until more than half of the storage is dead.
 ghost use Rattle.std.specs.Prelude.{◌≡◌, ℕ, List, ◌+◌, ◌<◌, [], ◌∷◌, ◌++◌, None, IfOk, OnOk, OnErr, IfNone, OnSome, length};
 ghost use Rattle.std.specs.Option.{option_copied};
 ghost use Rattle.sr_model.specs.Chain.{clauses, clause_of};
 ghost use Rattle.sr_model.specs.Judging.{without, first_dead, clause_cells, cells_of};
 ghost use Rattle.sr_check.specs.declared.live.Place.{Place};
 ghost use Rattle.sr_check.specs.Pages.{entry};
-ghost use Rattle.sr_check.specs.Storage.{with_live, AreDropped};
+ghost use Rattle.sr_check.specs.Storage.{with_live, AreApart, AreDropped};
 
 use crate::pages::Table;
 use crate::walk::Walk;
@@ -15,10 +15,13 @@ use sr_base::{Lit, NoMemory};
 use std::alloc::Global;
 use std::marker::Model;
 
+/// The dead cells that are let be however few the live ones are.
+const SLACK: u64 = 32_768;
+
 /// Where the literals of a clause lie.
 #[derive(Clone, Copy)]
 pub struct Place {
-    pub start: usize,
+    pub start: u32,
     pub len: u32,
     pub id: u32,
     pub live: bool,
@@ -76,12 +79,14 @@ impl LiveClauses {
         if !place.live {
             return None;
         }
-        Some(&self.lits[place.start..place.start + place.len as usize])
+        let start = place.start as usize;
+        Some(&self.lits[start..start + place.len as usize])
     }
 
     /// A walk over the clauses in order.
     pub fn walk(&self) -> Walk<'_>
-        ensures { result ≡ self.now }
+        ensures value { result ≡ self.now }
+        ensures apart { AreApart self.now }
     {
         Walk::new(&self.lits, &self.places)
     }
@@ -101,16 +106,16 @@ impl LiveClauses {
         ensures err { OnErr result (self.new ≡ self.old) }
     {
         let at = self.places.len();
-        if at > u32::MAX as usize {
+        let start = self.lits.len();
+        if at > u32::MAX as usize || start > u32::MAX as usize {
             return Err(NoMemory);
         }
-        let start = self.lits.len();
         let len = lits.len() as u32;
         let Ok(()) = self.lits.extend_from_slice(lits) else {
             return Err(NoMemory);
         };
         let place = Place {
-            start,
+            start: start as u32,
             len,
             id: number,
             live: false,
@@ -167,6 +172,41 @@ impl LiveClauses {
             self.cells -= place.len as u64 + 4;
         }
         None
+    }
+
+    /// Stores the clauses anew where more than half of the storage is dead. Where memory lacks, it stays as it is.
+    pub fn tidy(&mut self, alloc: Global)
+        requires { cells_of (clauses self.old) < 4294967296 }
+        ensures { self.new ≡ self.old }
+    {
+        if !self.is_wasteful() {
+            return;
+        }
+        if let Ok(fresh) = self.rebuilt(alloc) {
+            *self = fresh;
+        }
+    }
+
+    /// Whether more than half of the storage is dead, a small remainder apart.
+    fn is_wasteful(&self) -> bool {
+        let places = self.places.len() as u64;
+        let stored = places
+            .saturating_mul(4)
+            .saturating_add(self.lits.len() as u64);
+        self.cells < (stored / 2).saturating_sub(SLACK)
+    }
+
+    /// The same clauses, without what is dead.
+    fn rebuilt(&self, alloc: Global) -> Result<LiveClauses, NoMemory>
+        requires { cells_of (clauses self.now) < 4294967296 }
+        ensures { IfOk result (λ c. c ≡ self.now) }
+    {
+        let mut fresh = LiveClauses::new(alloc)?;
+        let mut walk = self.walk();
+        while let Some((number, lits)) = walk.next() {
+            fresh.add_last(number, lits)?;
+        }
+        Ok(fresh)
     }
 }
 

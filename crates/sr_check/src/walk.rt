@@ -41,8 +41,9 @@ impl<'a> Walk<'a> {
         while let [place, rest @ ..] = self.places {
             self.places = rest;
             if place.live {
-                let end = place.start + place.len as usize;
-                return Some((place.id, &self.lits[place.start..end]));
+                let start = place.start as usize;
+                let end = start + place.len as usize;
+                return Some((place.id, &self.lits[start..end]));
             }
         }
         None
