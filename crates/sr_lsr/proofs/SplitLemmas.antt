@@ -2,7 +2,7 @@
 use Rattle.std.proofs.Common.{◌≡◌, ◌∙◌, ◌==◌, ℕ, suc, ◌+◌, ◌-◌, ◌%◌, ◌<◌, ◌≤◌, refl, sym, ap, List, [], ◌∷◌, length, get_or, take, drop, Bool, true, false, Some, None, add-one, arith}
 use Rattle.std.proofs.lemmas.Bool.Decides.{nat_tests}
 use Rattle.std.specs.Prelude.{Result, Ok, Err, option_map}
-use Rattle.std.proofs.lemmas.List.{take_all}
+use Rattle.std.proofs.lemmas.List.{take_all, take_rest}
 use Rattle.sr_base.specs.Literal.{Literal, same, distinct}
 use Rattle.sr_base.specs.declared.names.TextKind.TheVariants.{OddMap, Twice}
 use Rattle.sr_model.specs.Substitution.{Witness}
@@ -106,3 +106,7 @@ maps_stop p lits end (Text kind place) h g = (odd_maps p lits h g.0 ∙ ap Some 
 maps_stop p lits end (Limit kind) h g = g
 maps_stop p lits end Source h g = g
 maps_stop p lits end NoMemory h g = g
+
+-- the literals behind a place
+pub behind : (xs : List Literal) (n m : ℕ) → n ≡ m → take (length xs - (n + 1)) (drop (n + 1) xs) ≡ drop (m + 1) xs
+behind xs n m e = take_rest xs (n + 1) ∙ ap (λ k. drop (k + 1) xs) e

@@ -137,7 +137,8 @@ fn sorted_codes(alloc: Global, lits: &[Lit]) -> Result<Vec<u32>, NoMemory>
     Ok(codes)
 }
 
-/// In the order of their codes, equal literals are neighbours, and complements are neighbours but for repeats.
+/// In the order of their codes, equal literals are neighbours, and so are complements, but for repeats
+/// between them.
 fn likeness_by_codes(codes: &[u32]) -> Likeness
     requires { IsNonDecreasing codes.now }
     ensures { IsLikenessOfCodes result codes.now }

@@ -1,14 +1,9 @@
-use Rattle.std.proofs.Common.{◌≡◌, ◌∙◌, ◌+◌, ◌<◌, ◌-◌, ℕ, List, None, Some, Ok, Err, take, drop, length, sym, ap, subst, arith}
-use Rattle.std.proofs.lemmas.List.{take_rest}
+use Rattle.std.proofs.Common.{◌∙◌, ◌<◌, ◌-◌, List, None, Some, Ok, Err, take, drop, length, sym, subst, arith}
 use Rattle.sr_base.specs.Literal.{Literal}
 use Rattle.sr_model.specs.Witnesses.{before}
 use Rattle.sr_lsr.specs.Steps.{GivesWitness, FindsWitness}
-use Rattle.sr_lsr.proofs.SplitLemmas.{first_and_others, no_witness, a_witness, bad_witness}
+use Rattle.sr_lsr.proofs.SplitLemmas.{behind, first_and_others, no_witness, a_witness, bad_witness}
 use Rattle.sr_lsr.proofs.witnesses.find_witness.Goals as goal
-
--- the literals behind the second pivot
-behind : (xs : List Literal) (n m : ℕ) → n ≡ m → take (length xs - (n + 1)) (drop (n + 1) xs) ≡ drop (m + 1) xs
-behind xs n m e = take_rest xs (n + 1) ∙ ap (λ k. drop (k + 1) xs) e
 
 pub returns-then-second-rest : goal.returns-then-second-rest
 returns-then-second-rest c =

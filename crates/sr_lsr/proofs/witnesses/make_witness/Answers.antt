@@ -1,19 +1,13 @@
-use Rattle.std.proofs.Common.{◌≡◌, ◌∙◌, ◌+◌, ◌<◌, ◌-◌, ℕ, List, Err, take, drop, length, sym, ap, subst, arith}
+use Rattle.std.proofs.Common.{◌∙◌, ◌<◌, Err, take, length, sym, ap, subst, arith}
 use Rattle.std.proofs.lemmas.Result.{err_from_is_err_and}
-use Rattle.std.proofs.lemmas.List.{take_rest}
-use Rattle.sr_base.specs.Literal.{Literal}
 use Rattle.sr_model.specs.Witnesses.{before}
 use Rattle.sr_lsr.specs.Steps.{GivesMaps}
-use Rattle.sr_lsr.proofs.SplitLemmas.{before-take, witness_alone, witness_maps, maps_stop}
+use Rattle.sr_lsr.proofs.SplitLemmas.{behind, before-take, witness_alone, witness_maps, maps_stop}
 use Rattle.sr_lsr.proofs.witnesses.make_witness.Goals as goal
 
 pub returns-then-third-lits : goal.returns-then-third-lits
 returns-then-third-lits c =
     witness_alone c.args.pivot c.args.lits.now c.args.end c.make_subst.result (sym c.count_before-third.ensures.value ∙ c.if-third-lits.true) c.make_subst.ensures
-
--- the literals behind the third pivot
-behind : (xs : List Literal) (n m : ℕ) → n ≡ m → take (length xs - (n + 1)) (drop (n + 1) xs) ≡ drop (m + 1) xs
-behind xs n m e = take_rest xs (n + 1) ∙ ap (λ k. drop (k + 1) xs) e
 
 pub returns-in_err-maps : goal.returns-in_err-maps
 returns-in_err-maps c =
