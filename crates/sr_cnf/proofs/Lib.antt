@@ -1,0 +1,5 @@
+pub mod Failing
+pub mod Plain
+pub mod Steps
+pub mod Numbers
+pub mod Fronts

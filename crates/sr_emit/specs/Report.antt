@@ -1,0 +1,43 @@
+-- The report on standard output. Parts of a line are parted by one space, and a line feed ends it.
+use Rattle.std.specs.Prelude.{ℕ, List, [], ◌∷◌, ◌++◌, Option, Some, codes, decimal}
+use Rattle.sr_emit.specs.Names.{which_name, text_name, limit_name, usage_name, cause_text}
+use Rattle.sr_emit.specs.declared.counts.Counts.{Counts}
+use Rattle.sr_emit.specs.declared.report.Command.{Command}
+use Rattle.sr_emit.specs.declared.report.Command.TheVariants.{Check}
+use Rattle.sr_emit.specs.declared.outcome.Outcome.{Outcome}
+use Rattle.sr_emit.specs.declared.outcome.Outcome.TheVariants.{Verified, RejectedStep, NoEmptyClause, Usage, Text, Limit, SourceFault, SinkFault, NoMemory}
+
+abbrev pub space : List ℕ
+space = 32 ∷ []
+
+abbrev pub line_end : List ℕ
+line_end = 10 ∷ []
+
+abbrev pub rejected_line : ℕ → List ℕ → List ℕ
+rejected_line id cause = codes "s REJECTED step " ++ decimal id ++ space ++ cause ++ line_end
+
+-- the last line; a fault of writing and want of memory print none
+abbrev pub last_line : Outcome → List ℕ
+last_line (Verified made core) = codes "s VERIFIED UNSAT" ++ line_end
+last_line (RejectedStep id cause) = rejected_line id (cause_text cause)
+last_line NoEmptyClause = codes "s NO EMPTY CLAUSE" ++ line_end
+last_line (Usage kind) = codes "e usage " ++ usage_name kind ++ line_end
+last_line (Text which kind place) = codes "e text " ++ which_name which ++ space ++ text_name kind ++ space ++ decimal place ++ line_end
+last_line (Limit which kind made core) = codes "e limit " ++ which_name which ++ space ++ limit_name kind ++ line_end
+last_line (SourceFault which) = codes "e source " ++ which_name which ++ line_end
+last_line (SinkFault which made core) = []
+last_line NoMemory = []
+
+abbrev pub count_line : List ℕ → ℕ → List ℕ
+count_line name n = codes "c " ++ name ++ space ++ decimal n ++ line_end
+
+abbrev pub check_lines : Counts → List ℕ
+check_lines k = count_line (codes "clauses") k.clauses ++ count_line (codes "steps") k.steps ++ count_line (codes "hints") k.hints
+
+-- statistics stand before the last line of a verified run that is asked for them
+abbrev pub statistics_of : Command → Option Counts → Outcome → List ℕ
+statistics_of Check (Some k) (Verified made core) = check_lines k
+statistics_of command counts outcome = []
+
+abbrev pub report : Command → Option Counts → Outcome → List ℕ
+report command counts outcome = statistics_of command counts outcome ++ last_line outcome

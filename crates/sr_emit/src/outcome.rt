@@ -1,0 +1,86 @@
+// The outcome of a run.
+ghost use Rattle.std.specs.Prelude.{◌≡◌};
+ghost use Rattle.sr_emit.specs.Status.{status_of};
+
+use sr_base::{Cause, IdList, LimitKind, TextKind, Which};
+use sr_wit::ItemList;
+
+/// Why the words of the command line are refused.
+#[derive(Clone, Copy, Debug, PartialEq, Eq)]
+pub enum UsageKind {
+    /// There are no words.
+    NoCommand,
+    /// The first word is no command.
+    UnknownCommand,
+    /// The command doesn't take the rest of the words.
+    Words,
+    /// Two of the named files have one name.
+    SameName,
+}
+
+/// What a run answers.
+///
+/// Where a field `made` is there, it and `core` are what a verified run made: the items of the trimmed proof and the
+/// numbers of the core's clauses. The command `check` makes neither.
+#[derive(Drop)]
+pub enum Outcome {
+    /// No assignment satisfies the formula.
+    Verified {
+        made: Option<ItemList>,
+        core: Option<IdList>,
+    },
+    /// The item with this number in front doesn't meet the hint rules.
+    RejectedStep {
+        id: u32,
+        cause: Cause,
+    },
+    /// The proof ends, and no step has the empty clause.
+    NoEmptyClause,
+    /// The words of the command line are refused.
+    Usage(UsageKind),
+    /// A file isn't spelled as its format asks, at this offset in bytes.
+    Text {
+        which: Which,
+        kind: TextKind,
+        place: u64,
+    },
+    /// A limit is passed while this file is read, kept or made.
+    Limit {
+        which: Which,
+        kind: LimitKind,
+        made: Option<ItemList>,
+        core: Option<IdList>,
+    },
+    /// Beginning to read this file, or reading it, failed.
+    SourceFault {
+        which: Which,
+    },
+    /// Beginning to write this file, writing it or finishing it failed.
+    SinkFault {
+        which: Which,
+        made: Option<ItemList>,
+        core: Option<IdList>,
+    },
+    /// Memory ran out.
+    NoMemory,
+}
+
+impl Outcome {
+    /// The status with which the process ends: 0 verified, 1 rejected, 2 the words, 3 a text, 4 a limit, 5 reading,
+    /// 6 writing, 7 memory.
+    pub fn status(&self) -> u8
+        ensures { result ≡ status_of self.now }
+    {
+        match self {
+            Outcome::Verified { .. } => 0,
+            Outcome::RejectedStep { .. } => 1,
+            Outcome::NoEmptyClause => 1,
+            Outcome::Usage(_) => 2,
+            Outcome::Text { .. } => 3,
+            Outcome::Limit { .. } => 4,
+            Outcome::SourceFault { .. } => 5,
+            Outcome::SinkFault { .. } => 6,
+            Outcome::NoMemory => 7,
+        }
+    }
+}

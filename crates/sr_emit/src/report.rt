@@ -1,0 +1,145 @@
+// The report on standard output: the lines of `--stats` where verified, and a last line for each outcome.
+ghost use Rattle.std.specs.Prelude.{◌≡◌, ◌++◌, IfOk, string_bytes, option_map, decimal};
+ghost use Rattle.sr_emit.specs.Report.{report, rejected_line, last_line, count_line, check_lines, statistics_of};
+
+use crate::counts::Counts;
+use crate::names::{name_of_limit, name_of_text, name_of_usage, name_of_which, text_of_cause};
+use crate::outcome::Outcome;
+use sr_base::{ByteList, NoMemory};
+use std::alloc::{AllocError, Global};
+
+/// The command that a run was given.
+#[derive(Clone, Copy, Debug, PartialEq, Eq)]
+pub enum Command {
+    Check,
+    /// None that is known.
+    Other,
+}
+
+/// The bytes of the report. `counts` are given where statistics are asked for; they are printed where the outcome is
+/// verified. A fault of writing and want of memory print nothing.
+pub fn report_bytes(
+    alloc: Global,
+    command: Command,
+    counts: Option<&Counts>,
+    outcome: &Outcome,
+) -> Result<ByteList, NoMemory>
+    ensures { IfOk result (λ b. b ≡ report command (option_map (λ c. c.now) counts.entry) outcome.now) }
+{
+    match lines(alloc, command, counts, outcome) {
+        Ok(text) => bytes_of(alloc, text.as_bytes()),
+        Err(_) => Err(NoMemory),
+    }
+}
+
+fn bytes_of(alloc: Global, text: &[u8]) -> Result<ByteList, NoMemory>
+    ensures { IfOk result (λ b. b ≡ text.now) }
+{
+    let mut bytes = ByteList::new(alloc);
+    for byte in text {
+        bytes.push(*byte)?;
+    }
+    Ok(bytes)
+}
+
+fn lines(
+    alloc: Global,
+    command: Command,
+    counts: Option<&Counts>,
+    outcome: &Outcome,
+) -> Result<String, AllocError>
+    ensures { IfOk result (λ s. string_bytes s ≡ report command (option_map (λ c. c.now) counts.entry) outcome.now) }
+{
+    let mut text = statistics(alloc, command, counts, outcome)?;
+    let last = last_of(alloc, outcome)?;
+    text.push_str(last.as_str())?;
+    Ok(text)
+}
+
+fn statistics(
+    alloc: Global,
+    command: Command,
+    counts: Option<&Counts>,
+    outcome: &Outcome,
+) -> Result<String, AllocError>
+    ensures { IfOk result (λ s. string_bytes s ≡ statistics_of command (option_map (λ c. c.now) counts.entry) outcome.now) }
+{
+    match (command, counts, outcome) {
+        (Command::Check, Some(counts), Outcome::Verified { .. }) => check_statistics(alloc, counts),
+        _ => Ok(String::new(alloc)),
+    }
+}
+
+fn check_statistics(alloc: Global, counts: &Counts) -> Result<String, AllocError>
+    ensures { IfOk result (λ s. string_bytes s ≡ check_lines counts.now) }
+{
+    let mut text = count_line(alloc, "clauses", u64::from(counts.clauses))?;
+    let steps = count_line(alloc, "steps", u64::from(counts.steps))?;
+    text.push_str(steps.as_str())?;
+    let hints = count_line(alloc, "hints", counts.hints)?;
+    text.push_str(hints.as_str())?;
+    Ok(text)
+}
+
+fn count_line(alloc: Global, name: &str, count: u64) -> Result<String, AllocError>
+    ensures { IfOk result (λ s. string_bytes s ≡ count_line name.now count) }
+{
+    let count = digits(alloc, count)?;
+    let mut text = String::from_str(alloc, "c ")?;
+    text.push_str(name)?;
+    text.push_str(" ")?;
+    text.push_str(count.as_str())?;
+    text.push_str("\n")?;
+    Ok(text)
+}
+
+fn digits(alloc: Global, n: u64) -> Result<String, AllocError>
+    ensures { IfOk result (λ s. string_bytes s ≡ decimal n) }
+{
+    format!(in alloc; "{n}")
+}
+
+fn rejected_line(alloc: Global, id: u32, cause: &str) -> Result<String, AllocError>
+    ensures { IfOk result (λ s. string_bytes s ≡ rejected_line id cause.now) }
+{
+    let id = digits(alloc, u64::from(id))?;
+    let mut text = String::from_str(alloc, "s REJECTED step ")?;
+    text.push_str(id.as_str())?;
+    text.push_str(" ")?;
+    text.push_str(cause)?;
+    text.push_str("\n")?;
+    Ok(text)
+}
+
+fn last_of(alloc: Global, outcome: &Outcome) -> Result<String, AllocError>
+    ensures { IfOk result (λ s. string_bytes s ≡ last_line outcome.now) }
+{
+    match outcome {
+        Outcome::Verified { .. } => String::from_str(alloc, "s VERIFIED UNSAT\n"),
+        Outcome::RejectedStep { id, cause } => {
+            let cause = text_of_cause(alloc, *cause)?;
+            rejected_line(alloc, *id, cause.as_str())
+        }
+        Outcome::NoEmptyClause => String::from_str(alloc, "s NO EMPTY CLAUSE\n"),
+        Outcome::Usage(kind) => {
+            let kind = name_of_usage(*kind);
+            format!(in alloc; "e usage {kind}\n")
+        }
+        Outcome::Text { which, kind, place } => {
+            let which = name_of_which(*which);
+            let kind = name_of_text(*kind);
+            format!(in alloc; "e text {which} {kind} {place}\n")
+        }
+        Outcome::Limit { which, kind, .. } => {
+            let which = name_of_which(*which);
+            let kind = name_of_limit(*kind);
+            format!(in alloc; "e limit {which} {kind}\n")
+        }
+        Outcome::SourceFault { which } => {
+            let which = name_of_which(*which);
+            format!(in alloc; "e source {which}\n")
+        }
+        Outcome::SinkFault { .. } => Ok(String::new(alloc)),
+        Outcome::NoMemory => Ok(String::new(alloc)),
+    }
+}
