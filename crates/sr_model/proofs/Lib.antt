@@ -9,3 +9,4 @@ pub mod Saturation
 pub mod Examples
 pub mod Lives
 pub mod Pivots
+pub mod FormatExamples
