@@ -10,3 +10,5 @@ pub mod Examples
 pub mod Lives
 pub mod Pivots
 pub mod FormatExamples
+pub mod TextTokens
+pub mod BinaryTokens

@@ -9,7 +9,7 @@ use Rattle.sr_base.specs.declared.names.TextKind.TheVariants.{BadWord, TooWide}
 use Rattle.sr_model.specs.declared.tokens.Word.{Word}
 use Rattle.sr_model.specs.declared.tokens.Word.TheVariants as word
 use Rattle.sr_model.specs.Words.{number_word}
-use Rattle.sr_model.specs.Texts.{Texts, finished, over, judged}
+use Rattle.sr_model.specs.Texts.{Texts, finished, stopped, over, next}
 use Rattle.sr_model.specs.Tokens.{Run}
 
 -- a byte without the top bit
@@ -58,13 +58,16 @@ open_after lists open_lists word.Del = 1
 open_after lists open_lists (word.Number (pos zero)) = open_lists - 1
 open_after lists open_lists w = open_lists
 
--- what the runs say, up to the first that says no word, and then this
+-- a run that says a word is a token, and more follows
+abbrev pub by_run : ℕ → Option (Result Word TextKind) → Texts → (Word → Texts) → Texts
+by_run place None end more = end
+by_run place (Some (Ok w)) end more = next (record { place = place; word = w }) (more w)
+by_run place (Some (Err kind)) end more = stopped kind place
+
+-- what the runs say, and then this
 abbrev pub said_in : ℕ → ℕ → List Run → Texts → Texts
 said_in lists open_lists [] end = end
-said_in lists open_lists (r ∷ rs) end = elim (run_said open_lists r.bytes) [
-  | None ↦ end
-  | Some s ↦ judged r.place s (elim s [ Ok w ↦ said_in lists (open_after lists open_lists w) rs end | Err kind ↦ end ])
-]
+said_in lists open_lists (r ∷ rs) end = by_run r.place (run_said open_lists r.bytes) end (λ w. said_in lists (open_after lists open_lists w) rs end)
 
 -- what the rest of a binary file says from a place on, where so many lists are open and so many bytes may be read
 unfoldable pub binary_from : ℕ → ℕ → ℕ → ℕ → List ℕ → Texts

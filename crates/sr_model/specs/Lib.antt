@@ -17,3 +17,4 @@ pub mod Binary
 pub mod LsrBinary
 pub mod Dsr
 pub mod Writing
+pub mod ReadAgain
