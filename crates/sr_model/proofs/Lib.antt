@@ -12,3 +12,7 @@ pub mod Pivots
 pub mod FormatExamples
 pub mod TextTokens
 pub mod BinaryTokens
+pub mod NumberTexts
+pub mod NumberStreams
+pub mod PartsWritten
+pub mod ItemsAgain

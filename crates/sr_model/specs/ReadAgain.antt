@@ -83,10 +83,9 @@ abbrev pub NumbersReadAgain : Type 0
 NumbersReadAgain = (x : ℤ) → nat_abs x < 2 ^ 63
     → (said_by (signed_decimal x) ≡ Ok (word.Number x)) × (number_said (number_bytes x) ≡ Some (Ok (word.Number x)))
 
--- no other bytes of its value are fewer
+-- no other bytes that say the number are fewer
 abbrev pub NumbersAreShortest : Type 0
-NumbersAreShortest = (x : ℤ) (bytes : List ℕ) → nat_abs x < 2 ^ 63 → list_any is_last bytes ≡ true → value_of bytes ≡ value_for x
-    → length (number_bytes x) ≤ length bytes
+NumbersAreShortest = (x : ℤ) (bytes : List ℕ) → number_said bytes ≡ Some (Ok (word.Number x)) → length (number_bytes x) ≤ length bytes
 
 -- a formula that the limit of bytes holds
 abbrev pub FormulasReadAgain : Type 0
