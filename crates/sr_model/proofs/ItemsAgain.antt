@@ -12,15 +12,16 @@ use Rattle.sr_model.specs.declared.tokens.Word.TheVariants as word
 use Rattle.sr_model.specs.Meeting.{Step}
 use Rattle.sr_model.specs.Judging.{Item, stepped, dropped}
 use Rattle.sr_model.specs.Texts.{Texts, next, judged}
-use Rattle.sr_model.specs.Tokens.{spelled_from}
+use Rattle.sr_model.specs.Tokens.{begins_line, spelled_from}
 use Rattle.sr_model.specs.Binary.{binary_from}
 use Rattle.sr_model.specs.Witnesses.{fault_of_literals}
 use Rattle.sr_model.specs.Lsr.{item, numbers, numbers_after, step_of, judged_step, with_hints, with_literals, dropped_after, by_kind, kind_at, by_id, item_at}
 use Rattle.sr_model.specs.LsrBinary.{by_step_number, binary_step_at, binary_item_at}
 use Rattle.sr_model.specs.Writing.{number_line, number_list, witness_written, literals_written, hints_written, step_numbers, item_text, item_binary}
 use Rattle.sr_model.specs.ReadAgain.{AreLimits, IsNumber, IsStep, IsItem, unnumbered}
-use Rattle.sr_model.proofs.TextTokens.{IsToken, token_first}
+use Rattle.sr_model.proofs.TextTokens.{token_first}
 use Rattle.sr_model.proofs.BinaryTokens.{binary_begins}
+use Rattle.sr_model.proofs.NumberTexts.{one_byte}
 use Rattle.sr_model.proofs.NumberStreams.{Begins, Entries, Narrow, numbers_read, dropped_read, text_number, text_begins, zeros, binary_begins_numbers}
 use Rattle.sr_model.proofs.PartsWritten.{AreLiterals, literals_back, literal_entries, clause_literals, parts_read, number_entries, group_entries, step_read}
 
@@ -89,10 +90,10 @@ body_read lim s i ts rest b =
     ∙ ap (item (stepped s)) second.3
 
 -- a number stands first behind the number of a step
-abbrev HasNumber : Texts → Type 0
+abbrev pub HasNumber : Texts → Type 0
 HasNumber ts = (place : ℕ) × (x : ℤ) × (rest : Texts) × (ts ≡ next (record { place = place; word = word.Number x }) rest)
 
-number_first : (xs ys : List ℤ) (ts rest : Texts) → Begins (xs ++ pos 0 ∷ ys) ts rest → HasNumber ts
+pub number_first : (xs ys : List ℤ) (ts rest : Texts) → Begins (xs ++ pos 0 ∷ ys) ts rest → HasNumber ts
 number_first [] ys ts rest b = (b.0, pos 0, b.1, b.2)
 number_first (x ∷ xs) ys ts rest b = (b.0, x, b.1, b.2)
 
@@ -127,10 +128,9 @@ pub deletion_text : (xs : List ℤ) → Narrow xs → (before : Option ℕ) (roo
     → (mid : Texts) × (spelled_from before room place ((codes "d " ++ number_line xs) ++ more) ≡ next (record { place = place; word = word.Del }) mid)
     × Begins (xs ++ pos 0 ∷ []) mid (spelled_from (Some 10) (room - length (codes "d " ++ number_line xs)) (place + length (codes "d " ++ number_line xs)) more)
 deletion_text xs n before room place more le =
-    let token : IsToken (100 ∷ []) = record { some = omega arith; dark = refl; plain = refl } in
     (
       spelled_from (Some 32) (room - 2) (place + 2) (number_line xs ++ more),
-      token_first (100 ∷ []) token before room place 32 (number_line xs ++ more) refl (omega arith),
+      token_first (100 ∷ []) before (one_byte (begins_line before) 100 refl refl) room place 32 (number_line xs ++ more) refl (omega arith),
       subst (Begins (xs ++ pos 0 ∷ []) (spelled_from (Some 32) (room - 2) (place + 2) (number_line xs ++ more)))
           (text_left more _ _ _ _ (omega arith) (omega arith))
           (text_begins xs n (Some 32) (room - 2) (place + 2) more (omega arith)),
@@ -152,7 +152,7 @@ dropped_text_read lim id ids a le all before room place more fits =
     let d = deletion_text (map pos ids) narrow (Some 32) left at more (omega arith) in
     let id_fits : nat_le id lim.ids ≡ true = grind (arith, nat_tests) in
     ap (λ bs. item_at lim (spelled_from before room place bs)) bytes
-    ∙ ap (item_at lim) (text_number (pos id) narrow_id before room place (line ++ more) (omega arith))
+    ∙ ap (item_at lim) (text_number (pos id) narrow_id before room place 32 (line ++ more) refl (omega arith))
     ∙ rw id_fits (ap (kind_at lim id place) d.1)
     ∙ dropped_read lim.ids id [] ids d.0 (spelled_from (Some 10) (left - length line) (at + length line) more) all d.2
     ∙ ap (item (dropped id ids)) (text_left more _ _ _ _ (omega arith) (omega arith))

@@ -16,3 +16,6 @@ pub mod NumberTexts
 pub mod NumberStreams
 pub mod PartsWritten
 pub mod ItemsAgain
+pub mod LinesAgain
+pub mod FormulasAgain
+pub mod FilesAgain

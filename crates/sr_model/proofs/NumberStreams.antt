@@ -9,15 +9,15 @@ use Rattle.sr_model.specs.declared.tokens.Word.{Word}
 use Rattle.sr_model.specs.declared.tokens.Word.TheVariants as word
 use Rattle.sr_model.specs.Judging.{dropped}
 use Rattle.sr_model.specs.Texts.{Texts, next, judged}
-use Rattle.sr_model.specs.Words.{said_by}
-use Rattle.sr_model.specs.Tokens.{spelled_from}
+use Rattle.sr_model.specs.Words.{is_white, said_by}
+use Rattle.sr_model.specs.Tokens.{begins_line, spelled_from}
 use Rattle.sr_model.specs.Binary.{number_said, open_after, binary_from}
 use Rattle.sr_model.specs.Lsr.{NumbersRead, numbers, by_number, numbers_after, ItemRead, item, by_dropped, dropped_after}
 use Rattle.sr_model.specs.Writing.{spaced, number_line, number_bytes, number_list}
 use Rattle.sr_model.specs.ReadAgain.{IsNumber}
-use Rattle.sr_model.proofs.TextTokens.{IsToken, token_first}
+use Rattle.sr_model.proofs.TextTokens.{token_first}
 use Rattle.sr_model.proofs.BinaryTokens.{binary_first}
-use Rattle.sr_model.proofs.NumberTexts.{decimal_said, signed_is_token, zero_text, IsSpelling, number_spells, number_run_said, zero_binary}
+use Rattle.sr_model.proofs.NumberTexts.{decimal_said, signed_is_token, one_byte, zero_text, IsSpelling, number_spells, number_run_said, zero_binary}
 
 -- the tokens begin with these numbers, and this is left
 abbrev pub Begins : List ℤ → Texts → Texts → Type 0
@@ -74,19 +74,18 @@ dropped_read bound id these (n ∷ ids) ts rest a b =
     ∙ ap (λ l. item (dropped id l) rest) (append_assoc these (n ∷ []) ids)
 
 -- a number of a text that a white byte ends
-pub text_number : (x : ℤ) → nat_abs x < 2 ^ 63 → (before : Option ℕ) (room place : ℕ) (more : List ℕ) → length (signed_decimal x) + 1 ≤ room
-    → spelled_from before room place (signed_decimal x ++ 32 ∷ more)
-    ≡ next (record { place = place; word = word.Number x }) (spelled_from (Some 32) (room - (length (signed_decimal x) + 1)) (place + (length (signed_decimal x) + 1)) more)
-text_number x h before room place more le =
-    token_first (signed_decimal x) (signed_is_token x h) before room place 32 more refl le
-    ∙ ap (λ w. judged place w (spelled_from (Some 32) (room - (length (signed_decimal x) + 1)) (place + (length (signed_decimal x) + 1)) more)) (decimal_said x h)
+pub text_number : (x : ℤ) → nat_abs x < 2 ^ 63 → (before : Option ℕ) (room place s : ℕ) (more : List ℕ) → is_white s ≡ true → length (signed_decimal x) + 1 ≤ room
+    → spelled_from before room place (signed_decimal x ++ s ∷ more)
+    ≡ next (record { place = place; word = word.Number x }) (spelled_from (Some s) (room - (length (signed_decimal x) + 1)) (place + (length (signed_decimal x) + 1)) more)
+text_number x h before room place s more w le =
+    token_first (signed_decimal x) before (signed_is_token (begins_line before) x h) room place s more w le
+    ∙ ap (λ o. judged place o (spelled_from (Some s) (room - (length (signed_decimal x) + 1)) (place + (length (signed_decimal x) + 1)) more)) (decimal_said x h)
 
 -- a line of numbers
 pub text_begins : (xs : List ℤ) → Narrow xs → (before : Option ℕ) (room place : ℕ) (more : List ℕ) → length (number_line xs) ≤ room
     → Begins (xs ++ pos 0 ∷ []) (spelled_from before room place (number_line xs ++ more)) (spelled_from (Some 10) (room - length (number_line xs)) (place + length (number_line xs)) more)
 text_begins [] n before room place more le =
-    let token : IsToken (48 ∷ []) = record { some = omega arith; dark = refl; plain = refl } in
-    (place, spelled_from (Some 10) (room - 2) (place + 2) more, token_first (48 ∷ []) token before room place 10 more refl le, refl)
+    (place, spelled_from (Some 10) (room - 2) (place + 2) more, token_first (48 ∷ []) before (one_byte (begins_line before) 48 refl refl) room place 10 more refl le, refl)
 text_begins (x ∷ xs) n before room place more le =
     let size : length (number_line (x ∷ xs)) ≡ length (signed_decimal x) + 1 + length (number_line xs) =
         ap length (append_assoc (signed_decimal x) (32 ∷ spaced xs) (48 ∷ 10 ∷ [])) ∙ omega (arith, length-append (signed_decimal x) (32 ∷ number_line xs)) in
@@ -97,7 +96,7 @@ text_begins (x ∷ xs) n before room place more le =
     (
       place,
       spelled_from (Some 32) (room - (length (signed_decimal x) + 1)) (place + (length (signed_decimal x) + 1)) (number_line xs ++ more),
-      ap (spelled_from before room place) bytes ∙ text_number x n.0 before room place (number_line xs ++ more) (omega arith),
+      ap (spelled_from before room place) bytes ∙ text_number x n.0 before room place 32 (number_line xs ++ more) refl (omega arith),
       subst (λ (p : ℕ). Begins (xs ++ pos 0 ∷ []) (spelled_from (Some 32) (room - (length (signed_decimal x) + 1)) (place + (length (signed_decimal x) + 1)) (number_line xs ++ more)) (spelled_from (Some 10) (room - length (number_line (x ∷ xs))) p more)) place_is
           (subst (λ (r : ℕ). Begins (xs ++ pos 0 ∷ []) (spelled_from (Some 32) (room - (length (signed_decimal x) + 1)) (place + (length (signed_decimal x) + 1)) (number_line xs ++ more)) (spelled_from (Some 10) r (place + (length (signed_decimal x) + 1) + length (number_line xs)) more)) room_is
           (text_begins xs n.1 (Some 32) (room - (length (signed_decimal x) + 1)) (place + (length (signed_decimal x) + 1)) more (omega arith))),

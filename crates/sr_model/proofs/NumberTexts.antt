@@ -98,14 +98,22 @@ digits_plain (c ∷ cs) d =
     let other : (c == 99) ≡ false = grind (arith, nat_tests) in
     rw (dark, other) refl
 
-pub decimal_is_token : (n : ℕ) → n < 2 ^ 63 → IsToken (decimal n)
-decimal_is_token n h =
-    let d = digits_decimal numerals n (omega arith) in
-    record { some = decimal_nonempty n (omega arith); dark = digits_dark (decimal n) d; plain = digits_plain (decimal n) d }
+plain_token : (begins c : Bool) → c ≡ false → (begins && c) ≡ false
+plain_token true c e = e
+plain_token false c e = refl
 
-pub signed_is_token : (x : ℤ) → nat_abs x < 2 ^ 63 → IsToken (signed_decimal x)
-signed_is_token (pos n) h = decimal_is_token n h
-signed_is_token (negsuc n) h = record { some = omega arith; dark = digits_dark (decimal (suc n)) (digits_decimal numerals (suc n) (omega arith)); plain = refl }
+pub decimal_is_token : (begins : Bool) (n : ℕ) → n < 2 ^ 63 → IsToken begins (decimal n)
+decimal_is_token begins n h =
+    let d = digits_decimal numerals n (omega arith) in
+    record { some = decimal_nonempty n (omega arith); dark = digits_dark (decimal n) d; plain = plain_token begins (is_comment (decimal n)) (digits_plain (decimal n) d) }
+
+pub signed_is_token : (begins : Bool) (x : ℤ) → nat_abs x < 2 ^ 63 → IsToken begins (signed_decimal x)
+signed_is_token begins (pos n) h = decimal_is_token begins n h
+signed_is_token begins (negsuc n) h = record { some = omega arith; dark = digits_dark (decimal (suc n)) (digits_decimal numerals (suc n) (omega arith)); plain = plain_token begins false refl }
+
+-- a token of one byte that begins no comment
+pub one_byte : (begins : Bool) (b : ℕ) → is_white b ≡ false → (b == 99) ≡ false → IsToken begins (b ∷ [])
+one_byte begins b w c = record { some = omega arith; dark = rw w refl; plain = plain_token begins (is_comment (b ∷ [])) (rw (w, c) refl) }
 
 pub zero_text : decimal 0 ≡ 48 ∷ []
 zero_text = decimal_digit 0 (omega arith)

@@ -1,5 +1,5 @@
 -- The first token of a text.
-use Rattle.std.proofs.Common.{◌≡◌, ◌∙◌, ℕ, suc, ◌+◌, ◌-◌, ◌<◌, ◌≤◌, not, Bool, true, false, refl, sym, ap, List, [], ◌∷◌, ◌++◌, length, Option, Some, arith, length-append}
+use Rattle.std.proofs.Common.{◌≡◌, ◌∙◌, ℕ, suc, ◌+◌, ◌-◌, ◌<◌, ◌≤◌, ◌&&◌, not, Bool, true, false, refl, sym, ap, List, [], ◌∷◌, ◌++◌, length, Option, Some, arith, length-append}
 use Rattle.std.specs.Prelude.{nat_le, nat_lt, ◌==◌}
 use Rattle.std.specs.List.{list_all}
 use Rattle.std.proofs.lemmas.Bool.Decides.{nat_tests}
@@ -12,11 +12,11 @@ use Rattle.sr_model.proofs.Soundness.{by_test}
 abbrev pub is_dark : ℕ → Bool
 is_dark b = not (is_white b)
 
--- bytes that make a token, also at the front of a line
-pub record IsToken (t : List ℕ) : Type 0 where
+-- bytes that make a token; at the front of a line they begin no comment
+pub record IsToken (begins : Bool) (t : List ℕ) : Type 0 where
   pub some : 0 < length t
   pub dark : list_all is_dark t ≡ true
-  pub plain : is_comment t ≡ false
+  pub plain : (begins && is_comment t) ≡ false
 
 dark_first : (b : ℕ) (bs : List ℕ) → list_all is_dark (b ∷ bs) ≡ true → (is_white b ≡ false) × (list_all is_dark bs ≡ true)
 dark_first b bs h = by_test (is_white b)
@@ -58,15 +58,12 @@ line_goes_on (b ∷ bs) s more d n =
     (rw k (ap (λ x. b ∷ x) r.0), rw k r.1)
 
 -- the runs of a line that begins with a token
-line_begins : (begins : Bool) (place b : ℕ) (bs tail : List ℕ) → IsToken (b ∷ bs) → run tail ≡ []
+line_begins : (begins : Bool) (place b : ℕ) (bs tail : List ℕ) → IsToken begins (b ∷ bs) → run tail ≡ []
     → tokens_of_first begins place ((b ∷ bs) ++ tail) ≡ record { place = place; bytes = b ∷ bs } ∷ runs_in false (place + suc (length bs)) tail
-line_begins begins place b bs tail t e = at begins
+line_begins begins place b bs tail t e = at begins t.plain
   where
     parts : (is_white b ≡ false) × (list_all is_dark bs ≡ true)
     parts = dark_first b bs t.dark
-
-    first : (b == 99) ≡ false
-    first = rw parts.0 at t.plain
 
     bytes : run ((b ∷ bs) ++ tail) ≡ b ∷ bs
     bytes = run_front (b ∷ bs) tail t.dark e
@@ -81,14 +78,15 @@ line_begins begins place b bs tail t e = at begins
         ∙ ap (λ x. record { place = place; bytes = x } ∷ runs_in false (place + 1) (bs ++ tail)) bytes
         ∙ ap (λ x. record { place = place; bytes = b ∷ bs } ∷ x) (runs_within (place + 1) bs tail parts.1 ∙ ap (λ (k : ℕ). runs_in false k tail) place_is)
 
-    at : (begins : Bool) → tokens_of_first begins place ((b ∷ bs) ++ tail) ≡ record { place = place; bytes = b ∷ bs } ∷ runs_in false (place + suc (length bs)) tail
-    at false = runs
-    at true =
+    at : (begins : Bool) → (begins && is_comment (b ∷ bs)) ≡ false → tokens_of_first begins place ((b ∷ bs) ++ tail) ≡ record { place = place; bytes = b ∷ bs } ∷ runs_in false (place + suc (length bs)) tail
+    at false c = runs
+    at true c =
+        let first : (b == 99) ≡ false = rw parts.0 at c in
         let plain : is_comment ((b ∷ bs) ++ tail) ≡ false = rw (parts.0, first) refl in
         rw plain runs
 
 -- the tokens of a text that begins with one
-tokens_first : (begins : Bool) (place b : ℕ) (bs : List ℕ) (s : ℕ) (more : List ℕ) → IsToken (b ∷ bs) → is_white s ≡ true
+tokens_first : (begins : Bool) (place b : ℕ) (bs : List ℕ) (s : ℕ) (more : List ℕ) → IsToken begins (b ∷ bs) → is_white s ≡ true
     → tokens_from begins place ((b ∷ bs) ++ s ∷ more) ≡ record { place = place; bytes = b ∷ bs } ∷ tokens_from (s == 10) (place + (suc (length bs) + 1)) more
 tokens_first begins place b bs s more t w = by_test (s == 10) (λ e. let is : s ≡ 10 = grind (arith, nat_tests) in rw is ended) goes_on
   where
@@ -118,11 +116,11 @@ tokens_first begins place b bs s more t w = by_test (s == 10) (λ e. let is : s 
         ∙ rw e refl
 
 -- a token that a white byte ends, and the text behind that
-pub token_first : (t : List ℕ) → IsToken t → (before : Option ℕ) (room place s : ℕ) (more : List ℕ) → is_white s ≡ true → length t + 1 ≤ room
+pub token_first : (t : List ℕ) (before : Option ℕ) → IsToken (begins_line before) t → (room place s : ℕ) (more : List ℕ) → is_white s ≡ true → length t + 1 ≤ room
     → spelled_from before room place (t ++ s ∷ more) ≡ judged place (said_by t) (spelled_from (Some s) (room - (length t + 1)) (place + (length t + 1)) more)
 unfolding spelled_from
-token_first [] t before room place s more w le = absurd (omega (arith, t.some))
-token_first (b ∷ bs) t before room place s more w le = by_test (nat_le (length more) (room - (suc (length bs) + 1))) whole cut
+token_first [] before t room place s more w le = absurd (omega (arith, t.some))
+token_first (b ∷ bs) before t room place s more w le = by_test (nat_le (length more) (room - (suc (length bs) + 1))) whole cut
   where
     tokens : tokens_from (begins_line before) place ((b ∷ bs) ++ s ∷ more) ≡ record { place = place; bytes = b ∷ bs } ∷ tokens_from (s == 10) (place + (suc (length bs) + 1)) more
     tokens = tokens_first (begins_line before) place b bs s more t w
