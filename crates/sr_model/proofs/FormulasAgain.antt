@@ -1,16 +1,14 @@
 -- Formulas that are written are read again.
-use Rattle.std.proofs.Common.{◌≡◌, ◌∙◌, ℕ, zero, suc, ◌+◌, ◌-◌, ◌^◌, ◌<◌, ◌≤◌, ◌&&◌, Bool, true, false, refl, sym, ap, subst, List, [], ◌∷◌, ◌++◌, length, map, Option, Some, None, Ok, ℤ, pos, negsuc, arith, append_assoc, length-append}
-use Rattle.std.specs.Prelude.{nat_abs, nat_le, nat_lt, ◌==◌, All, codes, decimal}
-use Rattle.std.specs.Fmt.{signed_decimal}
+use Rattle.std.proofs.Common.{◌≡◌, ◌∙◌, ℕ, zero, suc, ◌+◌, ◌-◌, ◌^◌, ◌<◌, ◌≤◌, Bool, true, false, refl, sym, ap, List, [], ◌∷◌, ◌++◌, length, map, Option, Some, None, ℤ, pos, negsuc, arith, append_assoc, length-append}
+use Rattle.std.specs.Prelude.{nat_abs, nat_le, nat_lt, All, codes, decimal}
 use Rattle.std.proofs.lemmas.Bool.Decides.{nat_tests}
 use Rattle.std.proofs.lemmas.List.{append-nil}
 use Rattle.sr_base.specs.Literal.{Literal, variable, number, literal_of, distinct}
 use Rattle.sr_base.specs.Limits.{LimitValues}
-use Rattle.sr_model.specs.declared.tokens.Word.{Word}
 use Rattle.sr_model.specs.declared.tokens.Word.TheVariants as word
-use Rattle.sr_model.specs.Texts.{Texts, finished, next, judged}
+use Rattle.sr_model.specs.Texts.{Texts, finished, next}
 use Rattle.sr_model.specs.Tokens.{begins_line, tokens_from, said, spelled_from, spelled}
-use Rattle.sr_model.specs.Dimacs.{Formula, FormulaRead, spells, by_number, in_clause, clauses_from, by_end, count_at, clauses_at, sizes_at, format_at, formula_at}
+use Rattle.sr_model.specs.Dimacs.{Formula, FormulaRead, spells, by_number, clauses_from, clauses_at, sizes_at, format_at, formula_at}
 use Rattle.sr_model.specs.Writing.{number_line, clause_lines, written_formula}
 use Rattle.sr_model.specs.ReadAgain.{AreLimits, IsLiteral, IsClause, IsFormula}
 use Rattle.sr_model.proofs.TextTokens.{IsToken, token_first}
@@ -102,7 +100,7 @@ formulas_again lim f a i fits =
     let c : ℕ = length f.clauses in
     let rest : List ℕ = decimal c ++ 10 ∷ clause_lines f.clauses in
     let whole : written_formula f ≡ 112 ∷ 32 ∷ 99 ∷ 110 ∷ 102 ∷ 32 ∷ (decimal v ++ 32 ∷ rest) =
-        append_assoc (codes "p cnf " ++ decimal v) (32 ∷ decimal c) (10 ∷ clause_lines f.clauses) ∙ append_assoc (codes "p cnf ") (decimal v) (32 ∷ rest) in
+    append_assoc (codes "p cnf " ++ decimal v) (32 ∷ decimal c) (10 ∷ clause_lines f.clauses) ∙ append_assoc (codes "p cnf ") (decimal v) (32 ∷ rest) in
     let rest_size : length rest ≡ length (decimal c) + 1 + length (clause_lines f.clauses) = omega (arith, length-append (decimal c) (10 ∷ clause_lines f.clauses)) in
     let size : length (written_formula f) ≡ 6 + length (decimal v) + 1 + length rest = ap length whole ∙ omega (arith, length-append (decimal v) (32 ∷ rest)) in
     let v_small : v < 2 ^ 63 = omega (arith, a.0, i.vars) in

@@ -1,21 +1,20 @@
 -- Items of a proof by hints that are written are read again.
-use Rattle.std.proofs.Common.{◌≡◌, ◌∙◌, ℕ, zero, suc, ◌+◌, ◌-◌, ◌^◌, ◌<◌, ◌≤◌, Bool, true, false, refl, sym, ap, subst, List, [], ◌∷◌, ◌++◌, length, map, Option, Some, None, Ok, ℤ, pos, negsuc, arith, append_assoc, length-append}
+use Rattle.std.proofs.Common.{◌≡◌, ◌∙◌, ℕ, zero, suc, ◌+◌, ◌-◌, ◌^◌, ◌<◌, ◌≤◌, true, false, refl, sym, ap, subst, List, [], ◌∷◌, ◌++◌, length, map, Option, Some, ℤ, pos, negsuc, arith, append_assoc, length-append}
 use Rattle.std.specs.Prelude.{nat_abs, nat_le, ◌==◌, All, codes, decimal}
-use Rattle.std.specs.Fmt.{signed_decimal}
 use Rattle.std.proofs.lemmas.Bool.Decides.{nat_tests}
 use Rattle.std.proofs.lemmas.List.{append-nil}
-use Rattle.sr_base.specs.Literal.{Literal, number, literal_of}
+use Rattle.sr_base.specs.Literal.{literal_of}
 use Rattle.sr_base.specs.Limits.{LimitValues}
 use Rattle.sr_base.specs.declared.names.LimitKind.TheVariants as limit
 use Rattle.sr_model.specs.declared.tokens.Word.{Word}
 use Rattle.sr_model.specs.declared.tokens.Word.TheVariants as word
 use Rattle.sr_model.specs.Meeting.{Step}
 use Rattle.sr_model.specs.Judging.{Item, stepped, dropped}
-use Rattle.sr_model.specs.Texts.{Texts, next, judged}
+use Rattle.sr_model.specs.Texts.{Texts, next}
 use Rattle.sr_model.specs.Tokens.{begins_line, spelled_from}
 use Rattle.sr_model.specs.Binary.{binary_from}
 use Rattle.sr_model.specs.Witnesses.{fault_of_literals}
-use Rattle.sr_model.specs.Lsr.{item, numbers, numbers_after, step_of, judged_step, with_hints, with_literals, dropped_after, by_kind, kind_at, by_id, item_at}
+use Rattle.sr_model.specs.Lsr.{item, numbers_after, step_of, judged_step, with_hints, with_literals, kind_at, item_at}
 use Rattle.sr_model.specs.LsrBinary.{by_step_number, binary_step_at, binary_item_at}
 use Rattle.sr_model.specs.Writing.{number_line, number_list, witness_written, literals_written, hints_written, step_numbers, item_text, item_binary}
 use Rattle.sr_model.specs.ReadAgain.{AreLimits, IsNumber, IsStep, IsItem, unnumbered}
@@ -105,7 +104,7 @@ step_text_read lim s i ts rest b =
     let some : (s.id == 0) ≡ false = let lt : 0 < s.id = i.id.0 in grind (arith, nat_tests) in
     let n = number_first (step_numbers s) [] b.1 rest b.3 in
     let kind : kind_at lim s.id b.0 b.1 ≡ with_literals lim s.id (numbers_after limit.Vars lim.vars [] b.1) =
-        ap (kind_at lim s.id b.0) n.3 ∙ rw some refl ∙ ap (λ t. with_literals lim s.id (numbers_after limit.Vars lim.vars [] t)) (sym n.3) in
+    ap (kind_at lim s.id b.0) n.3 ∙ rw some refl ∙ ap (λ t. with_literals lim s.id (numbers_after limit.Vars lim.vars [] t)) (sym n.3) in
     ap (item_at lim) b.2 ∙ rw id_fits kind ∙ body_read lim s i b.1 rest b.3
 
 -- a step in binary
@@ -127,14 +126,13 @@ binary_left lists more r q p k a b = ap (λ (x : ℕ). binary_from lists 0 x p m
 pub deletion_text : (xs : List ℤ) → Narrow xs → (before : Option ℕ) (room place : ℕ) (more : List ℕ) → length (codes "d " ++ number_line xs) ≤ room
     → (mid : Texts) × (spelled_from before room place ((codes "d " ++ number_line xs) ++ more) ≡ next (record { place = place; word = word.Del }) mid)
     × Begins (xs ++ pos 0 ∷ []) mid (spelled_from (Some 10) (room - length (codes "d " ++ number_line xs)) (place + length (codes "d " ++ number_line xs)) more)
-deletion_text xs n before room place more le =
-    (
-      spelled_from (Some 32) (room - 2) (place + 2) (number_line xs ++ more),
-      token_first (100 ∷ []) before (one_byte (begins_line before) 100 refl refl) room place 32 (number_line xs ++ more) refl (omega arith),
-      subst (Begins (xs ++ pos 0 ∷ []) (spelled_from (Some 32) (room - 2) (place + 2) (number_line xs ++ more)))
-          (text_left more _ _ _ _ (omega arith) (omega arith))
-          (text_begins xs n (Some 32) (room - 2) (place + 2) more (omega arith)),
-    )
+deletion_text xs n before room place more le = (
+  spelled_from (Some 32) (room - 2) (place + 2) (number_line xs ++ more),
+  token_first (100 ∷ []) before (one_byte (begins_line before) 100 refl refl) room place 32 (number_line xs ++ more) refl (omega arith),
+  subst (Begins (xs ++ pos 0 ∷ []) (spelled_from (Some 32) (room - 2) (place + 2) (number_line xs ++ more)))
+      (text_left more _ _ _ _ (omega arith) (omega arith))
+      (text_begins xs n (Some 32) (room - 2) (place + 2) more (omega arith)),
+)
 
 dropped_text_read : (lim : LimitValues) (id : ℕ) (ids : List ℕ) → AreLimits lim → id ≤ lim.ids → All (IsNumber lim.ids) ids → (before : Option ℕ) (room place : ℕ) (more : List ℕ) → length (item_text (dropped id ids)) ≤ room
     → item_at lim (spelled_from before room place (item_text (dropped id ids) ++ more))

@@ -19,3 +19,4 @@ pub mod ItemsAgain
 pub mod LinesAgain
 pub mod FormulasAgain
 pub mod FilesAgain
+pub mod ReadPivots

@@ -1,6 +1,5 @@
 -- Lines of a proof by lemmas that are written are read again.
-use Rattle.std.proofs.Common.{◌≡◌, ◌∙◌, ℕ, zero, suc, ◌+◌, ◌-◌, ◌^◌, ◌<◌, ◌≤◌, refl, sym, ap, subst, List, [], ◌∷◌, ◌++◌, length, map, Option, Some, None, ℤ, pos, negsuc, arith}
-use Rattle.std.specs.Prelude.{codes}
+use Rattle.std.proofs.Common.{◌≡◌, ◌∙◌, ℕ, suc, ◌+◌, ◌-◌, ◌≤◌, sym, ap, List, [], ◌∷◌, ◌++◌, length, map, Option, Some, ℤ, pos, arith}
 use Rattle.sr_base.specs.Literal.{Literal, number, literal_of, distinct}
 use Rattle.sr_base.specs.Limits.{LimitValues}
 use Rattle.sr_base.specs.declared.names.LimitKind.TheVariants as limit
@@ -10,8 +9,8 @@ use Rattle.sr_model.specs.Tokens.{spelled_from}
 use Rattle.sr_model.specs.Binary.{binary_from}
 use Rattle.sr_model.specs.Witnesses.{fault_of_literals}
 use Rattle.sr_model.specs.Lsr.{numbers_after}
-use Rattle.sr_model.specs.Dsr.{Lemma, Line, lemma_line, deletion_line, lemma_of, line, judged_lemma, with_lemma, with_deletion, by_first, line_at, binary_line_at}
-use Rattle.sr_model.specs.Writing.{number_line, number_list, witness_written, literals_written, line_text, line_binary}
+use Rattle.sr_model.specs.Dsr.{Lemma, Line, lemma_line, deletion_line, lemma_of, line, judged_lemma, with_lemma, with_deletion, line_at, binary_line_at}
+use Rattle.sr_model.specs.Writing.{number_list, witness_written, literals_written, line_text, line_binary}
 use Rattle.sr_model.specs.ReadAgain.{AreLimits, IsClause, IsLemma, IsLine}
 use Rattle.sr_model.proofs.BinaryTokens.{binary_begins}
 use Rattle.sr_model.proofs.NumberStreams.{Begins, Entries, Narrow, numbers_read, text_begins, zeros}
@@ -36,7 +35,7 @@ lemma_read vars l i ts rest b =
     let back : map literal_of (literals_written l.clause l.witness) ≡ all = literals_back vars all (lemma_literals vars l i) in
     let parts = parts_read vars l.clause l.witness i.clause i.witness in
     let made : lemma_of all ≡ l =
-        ap (λ c. record { clause = c; witness = (lemma_of all).witness }) parts.clause ∙ ap (λ w. record { clause = l.clause; witness = w }) parts.witness in
+    ap (λ c. record { clause = c; witness = (lemma_of all).witness }) parts.clause ∙ ap (λ w. record { clause = l.clause; witness = w }) parts.witness in
     ap with_lemma r.2
     ∙ ap (λ ls. judged_lemma (fault_of_literals ls) r.0 (lemma_of ls) r.1) back
     ∙ ap (λ o. judged_lemma o r.0 (lemma_of all) r.1) parts.faultless

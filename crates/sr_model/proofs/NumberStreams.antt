@@ -1,15 +1,14 @@
 -- Tokens that are numbers: how they are read, and which bytes give them.
-use Rattle.std.proofs.Common.{◌≡◌, ◌≢◌, ◌∙◌, ℕ, zero, suc, ◌+◌, ◌-◌, ◌*◌, ◌^◌, ◌<◌, ◌≤◌, Bool, true, false, refl, sym, ap, subst, List, [], ◌∷◌, ◌++◌, length, take, map, Option, Some, None, Ok, Err, ℤ, pos, negsuc, arith, append_assoc, length-append}
-use Rattle.std.specs.Prelude.{nat_abs, nat_le, nat_lt, All, flat_map}
+use Rattle.std.proofs.Common.{◌≡◌, ◌∙◌, ℕ, zero, suc, ◌+◌, ◌-◌, ◌^◌, ◌<◌, ◌≤◌, true, refl, sym, ap, subst, List, [], ◌∷◌, ◌++◌, length, take, map, Option, Some, Ok, ℤ, pos, negsuc, arith, append_assoc, length-append}
+use Rattle.std.specs.Prelude.{nat_abs, nat_le, All, flat_map}
 use Rattle.std.specs.Fmt.{signed_decimal}
 use Rattle.std.proofs.lemmas.Bool.Decides.{nat_tests}
 use Rattle.std.proofs.lemmas.List.{append-nil}
 use Rattle.sr_base.specs.declared.names.LimitKind.{LimitKind}
-use Rattle.sr_model.specs.declared.tokens.Word.{Word}
 use Rattle.sr_model.specs.declared.tokens.Word.TheVariants as word
 use Rattle.sr_model.specs.Judging.{dropped}
 use Rattle.sr_model.specs.Texts.{Texts, next, judged}
-use Rattle.sr_model.specs.Words.{is_white, said_by}
+use Rattle.sr_model.specs.Words.{is_white}
 use Rattle.sr_model.specs.Tokens.{begins_line, spelled_from}
 use Rattle.sr_model.specs.Binary.{number_said, open_after, binary_from}
 use Rattle.sr_model.specs.Lsr.{NumbersRead, numbers, by_number, numbers_after, ItemRead, item, by_dropped, dropped_after}
@@ -17,7 +16,7 @@ use Rattle.sr_model.specs.Writing.{spaced, number_line, number_bytes, number_lis
 use Rattle.sr_model.specs.ReadAgain.{IsNumber}
 use Rattle.sr_model.proofs.TextTokens.{token_first}
 use Rattle.sr_model.proofs.BinaryTokens.{binary_first}
-use Rattle.sr_model.proofs.NumberTexts.{decimal_said, signed_is_token, one_byte, zero_text, IsSpelling, number_spells, number_run_said, zero_binary}
+use Rattle.sr_model.proofs.NumberTexts.{decimal_said, signed_is_token, one_byte, number_spells, number_run_said}
 
 -- the tokens begin with these numbers, and this is left
 abbrev pub Begins : List ℤ → Texts → Texts → Type 0
@@ -88,12 +87,11 @@ text_begins [] n before room place more le =
     (place, spelled_from (Some 10) (room - 2) (place + 2) more, token_first (48 ∷ []) before (one_byte (begins_line before) 48 refl refl) room place 10 more refl le, refl)
 text_begins (x ∷ xs) n before room place more le =
     let size : length (number_line (x ∷ xs)) ≡ length (signed_decimal x) + 1 + length (number_line xs) =
-        ap length (append_assoc (signed_decimal x) (32 ∷ spaced xs) (48 ∷ 10 ∷ [])) ∙ omega (arith, length-append (signed_decimal x) (32 ∷ number_line xs)) in
+    ap length (append_assoc (signed_decimal x) (32 ∷ spaced xs) (48 ∷ 10 ∷ [])) ∙ omega (arith, length-append (signed_decimal x) (32 ∷ number_line xs)) in
     let bytes : number_line (x ∷ xs) ++ more ≡ signed_decimal x ++ 32 ∷ (number_line xs ++ more) =
-        ap (λ l. l ++ more) (append_assoc (signed_decimal x) (32 ∷ spaced xs) (48 ∷ 10 ∷ [])) ∙ append_assoc (signed_decimal x) (32 ∷ number_line xs) more in
+    ap (λ l. l ++ more) (append_assoc (signed_decimal x) (32 ∷ spaced xs) (48 ∷ 10 ∷ [])) ∙ append_assoc (signed_decimal x) (32 ∷ number_line xs) more in
     let room_is : room - (length (signed_decimal x) + 1) - length (number_line xs) ≡ room - length (number_line (x ∷ xs)) = omega arith in
-    let place_is : place + (length (signed_decimal x) + 1) + length (number_line xs) ≡ place + length (number_line (x ∷ xs)) = omega arith in
-    (
+    let place_is : place + (length (signed_decimal x) + 1) + length (number_line xs) ≡ place + length (number_line (x ∷ xs)) = omega arith in (
       place,
       spelled_from (Some 32) (room - (length (signed_decimal x) + 1)) (place + (length (signed_decimal x) + 1)) (number_line xs ++ more),
       ap (spelled_from before room place) bytes ∙ text_number x n.0 before room place 32 (number_line xs ++ more) refl (omega arith),
@@ -140,13 +138,12 @@ pub binary_begins_numbers : (xs : List ℤ) → Narrow xs → (lists room place 
 binary_begins_numbers [] n lists room place more le = (place, binary_from lists 0 (room - 1) (place + 1) more, binary_zero lists 0 room place more le, refl)
 binary_begins_numbers (x ∷ xs) n lists room place more le =
     let size : length (number_list (x ∷ xs)) ≡ length (number_bytes x) + length (number_list xs) =
-        ap length (append_assoc (number_bytes x) (flat_map number_bytes xs) (0 ∷ [])) ∙ length-append (number_bytes x) (number_list xs) in
+    ap length (append_assoc (number_bytes x) (flat_map number_bytes xs) (0 ∷ [])) ∙ length-append (number_bytes x) (number_list xs) in
     let bytes : number_list (x ∷ xs) ++ more ≡ number_bytes x ++ (number_list xs ++ more) =
-        ap (λ l. l ++ more) (append_assoc (number_bytes x) (flat_map number_bytes xs) (0 ∷ [])) ∙ append_assoc (number_bytes x) (number_list xs) more in
+    ap (λ l. l ++ more) (append_assoc (number_bytes x) (flat_map number_bytes xs) (0 ∷ [])) ∙ append_assoc (number_bytes x) (number_list xs) more in
     let room_is : room - length (number_bytes x) - length (number_list xs) ≡ room - length (number_list (x ∷ xs)) = omega arith in
     let place_is : place + length (number_bytes x) + length (number_list xs) ≡ place + length (number_list (x ∷ xs)) = omega arith in
-    let here : ℕ → Texts = λ (k : ℕ). binary_from lists k (room - length (number_bytes x)) (place + length (number_bytes x)) (number_list xs ++ more) in
-    (
+    let here : ℕ → Texts = λ (k : ℕ). binary_from lists k (room - length (number_bytes x)) (place + length (number_bytes x)) (number_list xs ++ more) in (
       place,
       here (suc (zeros xs)),
       ap (binary_from lists (suc (zeros (x ∷ xs))) room place) bytes

@@ -1,6 +1,6 @@
 -- Numbers that are written, in text and in binary.
-use Rattle.std.proofs.Common.{◌≡◌, ◌∙◌, ◌⊎◌, inl, inr, ℕ, zero, suc, ◌+◌, ◌-◌, ◌*◌, ◌^◌, ◌/◌, ◌%◌, ◌<◌, ◌≤◌, ◌&&◌, ◌||◌, not, Bool, true, false, refl, sym, ap, subst, List, [], ◌∷◌, ◌++◌, length, take, Option, Some, None, Ok, Err, ℤ, pos, negsuc, arith, length-append}
-use Rattle.std.specs.Prelude.{nat_abs, nat_le, nat_lt, ◌==◌, Result, decimal}
+use Rattle.std.proofs.Common.{◌≡◌, ◌∙◌, ℕ, zero, suc, ◌+◌, ◌-◌, ◌*◌, ◌^◌, ◌/◌, ◌%◌, ◌<◌, ◌≤◌, ◌&&◌, Bool, true, false, refl, sym, ap, subst, List, [], ◌∷◌, ◌++◌, length, take, Some, Ok, ℤ, pos, negsuc, arith}
+use Rattle.std.specs.Prelude.{nat_abs, nat_lt, ◌==◌, decimal}
 use Rattle.std.specs.Fmt.{signed_decimal}
 use Rattle.std.specs.Int.{IsInRange}
 use Rattle.std.specs.List.{list_any, list_all}
@@ -9,9 +9,6 @@ use Rattle.std.proofs.lemmas.Fmt.{decimal_nonempty, digits_decimal, digits_value
 use Rattle.std.proofs.lemmas.Str.Parse.{IsDigitsTest, FoldsDigits, IsNumeralModel, numerals_by_fold}
 use Rattle.std.proofs.lemmas.List.{take_all}
 use Rattle.std.proofs.Math.Nat.{pow-suc}
-use Rattle.sr_base.specs.declared.names.TextKind.{TextKind}
-use Rattle.sr_base.specs.declared.names.TextKind.TheVariants.{BadNumber, TooWide}
-use Rattle.sr_model.specs.declared.tokens.Word.{Word}
 use Rattle.sr_model.specs.declared.tokens.Word.TheVariants as word
 use Rattle.sr_model.specs.Words.{is_white, is_digit, value_after, signed, number_word, number_by, said_by}
 use Rattle.sr_model.specs.Tokens.{is_comment}

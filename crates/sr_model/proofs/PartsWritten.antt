@@ -1,21 +1,20 @@
 -- The parts of a step or a lemma, from the numbers that are written.
-use Rattle.std.proofs.Common.{◌≡◌, ◌≢◌, ◌∙◌, ℕ, zero, suc, ◌+◌, ◌^◌, ◌<◌, ◌≤◌, ◌&&◌, not, Bool, true, false, refl, sym, ap, subst, List, [], ◌∷◌, ◌++◌, length, map, Option, Some, None, ℤ, pos, negsuc, arith, add-one, append_assoc}
+use Rattle.std.proofs.Common.{◌≡◌, ◌∙◌, ℕ, zero, suc, ◌<◌, not, true, false, refl, sym, ap, subst, List, [], ◌∷◌, ◌++◌, map, Option, Some, None, ℤ, pos, arith}
 use Rattle.std.specs.Prelude.{nat_abs, neg_ℤ, filter, All, option_map}
 use Rattle.std.proofs.lemmas.List.{append-nil}
 use Rattle.sr_base.specs.Literal.{Literal, plus, minus, variable, number, literal_of, same, has, distinct, NoRepeats}
 use Rattle.sr_base.specs.Limits.{LimitValues}
-use Rattle.sr_base.specs.declared.names.TextKind.{TextKind}
 use Rattle.sr_base.specs.declared.names.TextKind.TheVariants.{Twice}
 use Rattle.sr_base.proofs.Literals.{same_tells}
 use Rattle.sr_model.specs.declared.images.Image.{Image}
-use Rattle.sr_model.specs.Substitution.{Witness, IsPivot}
+use Rattle.sr_model.specs.Substitution.{Witness}
 use Rattle.sr_model.specs.Meeting.{Group, Step}
 use Rattle.sr_model.specs.Witnesses.{before, after, pairs, is_odd, twice_of, parts_of, witness_by, maps_of, clause_of_literals, witness_of_literals, fault_of_maps, fault_of_witness, fault_of_literals}
 use Rattle.sr_model.specs.Lsr.{prefix_of, groups_of, step_of}
-use Rattle.sr_model.specs.Writing.{flat, maps_written, witness_written, literals_written, groups_written, hints_written, step_numbers}
+use Rattle.sr_model.specs.Writing.{flat, maps_written, witness_written, groups_written, hints_written}
 use Rattle.sr_model.specs.ReadAgain.{IsLiteral, IsMap, IsNumber, IsClause, IsWitness, IsGroup, IsStep}
-use Rattle.sr_model.proofs.Soundness.{by_test, has_kept}
-use Rattle.sr_model.proofs.NumberStreams.{Entries, Narrow, zeros}
+use Rattle.sr_model.proofs.Soundness.{has_kept}
+use Rattle.sr_model.proofs.NumberStreams.{Entries}
 
 -- literals, and what they are written as
 abbrev pub AreLiterals : ℕ → List Literal → Type 0
@@ -164,7 +163,7 @@ lacks_pivot : (w : Witness) → witness_by w.pivot w.assigned w.maps ≡ w → h
 lacks_pivot w e =
     let is : filter (λ l. not (same w.pivot l)) (distinct w.assigned) ≡ w.assigned = ap (λ v. v.assigned) e in
     let none : has w.pivot (filter (λ l. not (same w.pivot l)) (distinct w.assigned)) ≡ false =
-        has_kept (λ l. not (same w.pivot l)) w.pivot (distinct w.assigned) ∙ rw (same_itself w.pivot) refl in
+    has_kept (λ l. not (same w.pivot l)) w.pivot (distinct w.assigned) ∙ rw (same_itself w.pivot) refl in
     sym (ap (has w.pivot) is) ∙ none
 
 pub parts_read : (vars : ℕ) (c : List Literal) (w : Option Witness) → IsClause vars c → ((v : Witness) → w ≡ Some v → IsWitness vars c v) → ReadParts (c ++ witness_written w) c w

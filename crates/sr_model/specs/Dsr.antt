@@ -97,3 +97,7 @@ SpellLines form lim ts (l ∷ ls) rest = (mid : Texts) × (line_in form lim ts �
 abbrev pub LineHasPivot : Line → Type 0
 LineHasPivot (lemma_line l) = (w : Witness) → l.witness ≡ Some w → IsPivot w.pivot l.clause
 LineHasPivot (deletion_line c) = Unit {0}
+
+-- what is read has it
+abbrev pub ReadLinesHavePivots : Type 0
+ReadLinesHavePivots = (form : Form) (lim : LimitValues) (ts rest : Texts) (l : Line) → line_in form lim ts ≡ line l rest → LineHasPivot l

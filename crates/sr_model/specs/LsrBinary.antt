@@ -10,7 +10,7 @@ use Rattle.sr_model.specs.declared.tokens.Word.TheVariants as word
 use Rattle.sr_model.specs.Texts.{Texts, finished, stopped, over, next}
 use Rattle.sr_model.specs.Tokens.{spelled}
 use Rattle.sr_model.specs.Binary.{spelled_binary}
-use Rattle.sr_model.specs.Judging.{Item}
+use Rattle.sr_model.specs.Judging.{Item, ItemHasPivot}
 use Rattle.sr_model.specs.Lsr.{ItemRead, item, none, misspells, passes, numbers_after, with_literals, dropped_after, item_at}
 
 -- a step's number is at least 1
@@ -54,3 +54,7 @@ item_texts Binary limit bytes = spelled_binary 2 limit bytes
 abbrev pub SpellItemsIn : Form → LimitValues → Texts → List Item → Texts → Type 0
 SpellItemsIn form lim ts [] rest = ts ≡ rest
 SpellItemsIn form lim ts (it ∷ items) rest = (mid : Texts) × (item_in form lim ts ≡ item it mid) × SpellItemsIn form lim mid items rest
+
+-- what is read has the pivot of its clause
+abbrev pub ReadItemsHavePivots : Type 0
+ReadItemsHavePivots = (form : Form) (lim : LimitValues) (ts rest : Texts) (it : Item) → item_in form lim ts ≡ item it rest → ItemHasPivot it

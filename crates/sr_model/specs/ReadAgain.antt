@@ -1,7 +1,6 @@
 -- What is written is read again, whatever follows. Each law is the contract of a public function.
-use Rattle.std.specs.Prelude.{ℕ, ◌+◌, ◌-◌, ◌^◌, ◌<◌, ◌≤◌, ◌≡◌, ℤ, nat_abs, true, List, [], ◌++◌, length, map, All, Option, Some, None, Ok}
+use Rattle.std.specs.Prelude.{ℕ, ◌+◌, ◌-◌, ◌^◌, ◌<◌, ◌≤◌, ◌≡◌, ℤ, nat_abs, List, [], ◌++◌, length, map, All, Option, Some, None, Ok}
 use Rattle.std.specs.Fmt.{signed_decimal}
-use Rattle.std.specs.List.{list_any}
 use Rattle.sr_base.specs.Literal.{Literal, variable, NoRepeats}
 use Rattle.sr_base.specs.Limits.{LimitValues, FitLimits}
 use Rattle.sr_base.specs.declared.names.Form.{Form}
@@ -14,13 +13,13 @@ use Rattle.sr_model.specs.Witnesses.{witness_by, parts_of, twice_of}
 use Rattle.sr_model.specs.Texts.{Texts}
 use Rattle.sr_model.specs.Words.{said_by}
 use Rattle.sr_model.specs.Tokens.{spelled_from, spelled}
-use Rattle.sr_model.specs.Binary.{is_last, value_of, number_said, binary_from}
+use Rattle.sr_model.specs.Binary.{number_said, binary_from}
 use Rattle.sr_model.specs.Dimacs.{Formula, spells, formula_at}
 use Rattle.sr_model.specs.Lsr.{item, none, item_at}
 use Rattle.sr_model.specs.LsrBinary.{binary_item_at, item_in, item_texts, SpellItemsIn}
 use Rattle.sr_model.specs.Dsr as dsr
 use Rattle.sr_model.specs.Dsr.{Lemma, Line, lemma_line, deletion_line, line_at, binary_line_at, line_in, line_texts, SpellLines}
-use Rattle.sr_model.specs.Writing.{value_for, number_bytes, item_text, item_binary, written_items, line_text, line_binary, written_lines, written_formula}
+use Rattle.sr_model.specs.Writing.{number_bytes, item_text, item_binary, written_items, line_text, line_binary, written_lines, written_formula}
 
 -- limits that a run may have
 abbrev pub AreLimits : LimitValues → Type 0
