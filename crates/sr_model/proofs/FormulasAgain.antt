@@ -1,16 +1,16 @@
 -- Formulas that are written are read again.
-use Rattle.std.proofs.Common.{◌≡◌, ◌∙◌, ℕ, zero, suc, ◌+◌, ◌-◌, ◌^◌, ◌<◌, ◌≤◌, Bool, true, false, refl, sym, ap, List, [], ◌∷◌, ◌++◌, length, map, Option, Some, None, ℤ, pos, negsuc, arith, append_assoc, length-append}
+use Rattle.std.proofs.Common.{◌≡◌, ◌∙◌, ℕ, zero, suc, ◌+◌, ◌-◌, ◌^◌, ◌<◌, ◌≤◌, Bool, true, false, refl, sym, ap, List, [], ◌∷◌, ◌++◌, length, map, get_or, Option, Some, None, ℤ, pos, negsuc, arith, append_assoc, length-append}
 use Rattle.std.specs.Prelude.{nat_abs, nat_le, nat_lt, All, codes, decimal}
 use Rattle.std.proofs.lemmas.Bool.Decides.{nat_tests}
-use Rattle.std.proofs.lemmas.List.{append-nil}
+use Rattle.std.proofs.lemmas.List.{append-nil, length-map}
 use Rattle.sr_base.specs.Literal.{Literal, variable, number, literal_of, distinct}
 use Rattle.sr_base.specs.Limits.{LimitValues}
 use Rattle.sr_model.specs.declared.tokens.Word.TheVariants as word
 use Rattle.sr_model.specs.Texts.{Texts, finished, next}
 use Rattle.sr_model.specs.Tokens.{begins_line, tokens_from, said, spelled_from, spelled}
 use Rattle.sr_model.specs.Dimacs.{Formula, FormulaRead, spells, by_number, clauses_from, clauses_at, sizes_at, format_at, formula_at}
-use Rattle.sr_model.specs.Writing.{number_line, clause_lines, written_formula}
-use Rattle.sr_model.specs.ReadAgain.{AreLimits, IsLiteral, IsClause, IsFormula}
+use Rattle.sr_model.specs.Writing.{number_line, clause_lines, written_formula, selected}
+use Rattle.sr_model.specs.ReadAgain.{AreLimits, IsLiteral, IsNumber, IsClause, IsFormula}
 use Rattle.sr_model.proofs.TextTokens.{IsToken, token_first}
 use Rattle.sr_model.proofs.NumberTexts.{one_byte}
 use Rattle.sr_model.proofs.NumberStreams.{Begins, Narrow, text_number, text_begins}
@@ -114,3 +114,19 @@ formulas_again lim f a i fits =
     ∙ ap (clauses_at lim v) (text_number (pos c) c_small (Some 32) (lim.bytes - 2 - 4 - (length (decimal v) + 1)) (6 + (length (decimal v) + 1)) 10 (clause_lines f.clauses) refl (omega arith))
     ∙ count_passes lim v c (6 + (length (decimal v) + 1)) _ i.count
     ∙ clauses_read v c [] f.clauses (omega arith) v_small i.clauses (Some 10) (lim.bytes - 2 - 4 - (length (decimal v) + 1) - (length (decimal c) + 1)) (6 + (length (decimal v) + 1) + (length (decimal c) + 1)) (omega arith)
+
+-- some clauses of a formula
+chosen_at : (v : ℕ) (cs : List (List Literal)) (n : ℕ) → All (IsClause v) cs → IsNumber (length cs) n → IsClause v (get_or cs (n - 1) [])
+chosen_at v cs n a i = a (n - 1) [] (omega (arith, i.0, i.1))
+
+chosen : (v : ℕ) (cs : List (List Literal)) (ids : List ℕ) → All (IsClause v) cs → All (IsNumber (length cs)) ids → All (IsClause v) (map (λ n. get_or cs (n - 1) []) ids)
+chosen v cs [] a i k d h = absurd (omega arith)
+chosen v cs (n ∷ ids) a i zero d h = chosen_at v cs n a (i 0 n (omega arith))
+chosen v cs (n ∷ ids) a i (suc k) d h = chosen v cs ids a (λ j e l. i (suc j) e (omega arith)) k d (omega arith)
+
+pub selections_again : (lim : LimitValues) (f : Formula) (ids : List ℕ) → AreLimits lim → IsFormula lim f → All (IsNumber (length f.clauses)) ids → length ids < lim.ids
+    → length (written_formula (selected f ids)) ≤ lim.bytes → formula_at lim (spelled lim.bytes (written_formula (selected f ids))) ≡ spells (selected f ids)
+selections_again lim f ids a i numbers few fits =
+    formulas_again lim (selected f ids) a
+    (record { vars = i.vars; count = omega (arith, length-map ids (λ n. get_or f.clauses (n - 1) [])); clauses = chosen f.vars f.clauses ids i.clauses numbers })
+    fits

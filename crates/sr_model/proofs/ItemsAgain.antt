@@ -134,26 +134,39 @@ deletion_text xs n before room place more le = (
       (text_begins xs n (Some 32) (room - 2) (place + 2) more (omega arith)),
 )
 
+-- a deletion, behind its number
+deletion_text_read : (lim : LimitValues) (id : ℕ) (ids : List ℕ) → AreLimits lim → All (IsNumber lim.ids) ids → (before : Option ℕ) (at room place : ℕ) (more : List ℕ) → length (codes "d " ++ number_line (map pos ids)) ≤ room
+    → kind_at lim id at (spelled_from before room place ((codes "d " ++ number_line (map pos ids)) ++ more))
+    ≡ item (dropped id ids) (spelled_from (Some 10) (room - length (codes "d " ++ number_line (map pos ids))) (place + length (codes "d " ++ number_line (map pos ids))) more)
+deletion_text_read lim id ids a all before at room place more fits =
+    let narrow : Narrow (map pos ids) = narrow_entries lim.ids (map pos ids) (omega (arith, a.2)) (number_list_entries lim.ids ids all) in
+    let d = deletion_text (map pos ids) narrow before room place more fits in
+    ap (kind_at lim id at) d.1 ∙ dropped_read lim.ids id [] ids d.0 _ all d.2
+
+id_read : (lim : LimitValues) (id place : ℕ) (rest : Texts) → id ≤ lim.ids → item_at lim (next (record { place = place; word = word.Number (pos id) }) rest) ≡ kind_at lim id place rest
+unfolding item_at
+id_read lim id place rest le = let t : nat_le id lim.ids ≡ true = grind (arith, nat_tests) in rw t refl
+
 dropped_text_read : (lim : LimitValues) (id : ℕ) (ids : List ℕ) → AreLimits lim → id ≤ lim.ids → All (IsNumber lim.ids) ids → (before : Option ℕ) (room place : ℕ) (more : List ℕ) → length (item_text (dropped id ids)) ≤ room
     → item_at lim (spelled_from before room place (item_text (dropped id ids) ++ more))
     ≡ item (dropped id ids) (spelled_from (Some 10) (room - length (item_text (dropped id ids))) (place + length (item_text (dropped id ids))) more)
-unfolding item_at
-dropped_text_read lim id ids a le all before room place more fits =
-    let narrow_id : nat_abs (pos id) < 2 ^ 63 = omega (arith, a.2) in
-    let narrow : Narrow (map pos ids) = narrow_entries lim.ids (map pos ids) (omega (arith, a.2)) (number_list_entries lim.ids ids all) in
-    let line : List ℕ = codes "d " ++ number_line (map pos ids) in
-    let whole : item_text (dropped id ids) ≡ decimal id ++ 32 ∷ line = append_assoc (decimal id) (codes " d ") (number_line (map pos ids)) in
-    let size : length (item_text (dropped id ids)) ≡ length (decimal id) + 1 + length line = ap length whole ∙ omega (arith, length-append (decimal id) (32 ∷ line)) in
-    let bytes : item_text (dropped id ids) ++ more ≡ decimal id ++ 32 ∷ (line ++ more) = ap (λ l. l ++ more) whole ∙ append_assoc (decimal id) (32 ∷ line) more in
-    let at : ℕ = place + (length (decimal id) + 1) in
-    let left : ℕ = room - (length (decimal id) + 1) in
-    let d = deletion_text (map pos ids) narrow (Some 32) left at more (omega arith) in
-    let id_fits : nat_le id lim.ids ≡ true = grind (arith, nat_tests) in
-    ap (λ bs. item_at lim (spelled_from before room place bs)) bytes
-    ∙ ap (item_at lim) (text_number (pos id) narrow_id before room place 32 (line ++ more) refl (omega arith))
-    ∙ rw id_fits (ap (kind_at lim id place) d.1)
-    ∙ dropped_read lim.ids id [] ids d.0 (spelled_from (Some 10) (left - length line) (at + length line) more) all d.2
-    ∙ ap (item (dropped id ids)) (text_left more _ _ _ _ (omega arith) (omega arith))
+dropped_text_read lim id ids a le all before room place more fits = at (codes "d " ++ number_line (map pos ids)) whole (deletion_text_read lim id ids a all (Some 32) place)
+  where
+    whole : item_text (dropped id ids) ≡ decimal id ++ 32 ∷ (codes "d " ++ number_line (map pos ids))
+    whole = append_assoc (decimal id) (codes " d ") (number_line (map pos ids))
+
+    at : (line : List ℕ) → item_text (dropped id ids) ≡ decimal id ++ 32 ∷ line
+        → ((r p : ℕ) (more : List ℕ) → length line ≤ r → kind_at lim id place (spelled_from (Some 32) r p (line ++ more)) ≡ item (dropped id ids) (spelled_from (Some 10) (r - length line) (p + length line) more))
+        → item_at lim (spelled_from before room place (item_text (dropped id ids) ++ more))
+        ≡ item (dropped id ids) (spelled_from (Some 10) (room - length (item_text (dropped id ids))) (place + length (item_text (dropped id ids))) more)
+    at line e read =
+        let narrow : nat_abs (pos id) < 2 ^ 63 = omega (arith, a.2) in
+        let size : length (item_text (dropped id ids)) ≡ length (decimal id) + 1 + length line = ap length e ∙ omega (arith, length-append (decimal id) (32 ∷ line)) in
+        ap (λ bs. item_at lim (spelled_from before room place bs)) (ap (λ l. l ++ more) e ∙ append_assoc (decimal id) (32 ∷ line) more)
+        ∙ ap (item_at lim) (text_number (pos id) narrow before room place 32 (line ++ more) refl (omega arith))
+        ∙ id_read lim id place _ le
+        ∙ read (room - (length (decimal id) + 1)) (place + (length (decimal id) + 1)) more (omega arith)
+        ∙ ap (item (dropped id ids)) (text_left more _ _ _ _ (omega arith) (omega arith))
 
 pub items_again : (lim : LimitValues) (it : Item) (before : Option ℕ) (room place : ℕ) (more : List ℕ) → AreLimits lim → IsItem lim it → length (item_text it) ≤ room
     → item_at lim (spelled_from before room place (item_text it ++ more))

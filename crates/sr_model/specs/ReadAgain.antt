@@ -19,7 +19,7 @@ use Rattle.sr_model.specs.Lsr.{item, none, item_at}
 use Rattle.sr_model.specs.LsrBinary.{binary_item_at, item_in, item_texts, SpellItemsIn}
 use Rattle.sr_model.specs.Dsr as dsr
 use Rattle.sr_model.specs.Dsr.{Lemma, Line, lemma_line, deletion_line, line_at, binary_line_at, line_in, line_texts, SpellLines}
-use Rattle.sr_model.specs.Writing.{number_bytes, item_text, item_binary, written_items, line_text, line_binary, written_lines, written_formula}
+use Rattle.sr_model.specs.Writing.{number_bytes, item_text, item_binary, written_items, line_text, line_binary, written_lines, written_formula, selected}
 
 -- limits that a run may have
 abbrev pub AreLimits : LimitValues → Type 0
@@ -90,6 +90,11 @@ NumbersAreShortest = (x : ℤ) (bytes : List ℕ) → number_said bytes ≡ Some
 abbrev pub FormulasReadAgain : Type 0
 FormulasReadAgain = (lim : LimitValues) (f : Formula) → AreLimits lim → IsFormula lim f → length (written_formula f) ≤ lim.bytes
     → formula_at lim (spelled lim.bytes (written_formula f)) ≡ spells f
+
+-- and so is one that has some of its clauses
+abbrev pub SelectionsReadAgain : Type 0
+SelectionsReadAgain = (lim : LimitValues) (f : Formula) (ids : List ℕ) → AreLimits lim → IsFormula lim f → All (IsNumber (length f.clauses)) ids → length ids < lim.ids
+    → length (written_formula (selected f ids)) ≤ lim.bytes → formula_at lim (spelled lim.bytes (written_formula (selected f ids))) ≡ spells (selected f ids)
 
 -- an item for which there is room, and behind it what follows, at a line's begin
 abbrev pub ItemsReadAgain : Type 0

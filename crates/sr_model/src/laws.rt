@@ -2,7 +2,7 @@
 ghost use Rattle.sr_model.specs.Laws.{RefutationIsSound, ClosedChainRefutes, UnclosedChainKeeps, RupHolds, RedundancyKeeps, RedundancyIsSound, MetIsSound, EmptyIsSound, VerifiedIsUnsat, StrictIsVerified, TakingJudges, TakingKeepsLive, RejectionKeepsLive, VerificationKeepsLive};
 ghost use Rattle.sr_model.specs.LsrBinary.{ReadItemsHavePivots};
 ghost use Rattle.sr_model.specs.Dsr.{ReadLinesHavePivots};
-ghost use Rattle.sr_model.specs.ReadAgain.{NumbersReadAgain, NumbersAreShortest, FormulasReadAgain, ItemsReadAgain, BinaryItemsReadAgain, LinesReadAgain, BinaryLinesReadAgain, ItemFilesReadAgain, LineFilesReadAgain};
+ghost use Rattle.sr_model.specs.ReadAgain.{NumbersReadAgain, NumbersAreShortest, FormulasReadAgain, SelectionsReadAgain, ItemsReadAgain, BinaryItemsReadAgain, LinesReadAgain, BinaryLinesReadAgain, ItemFilesReadAgain, LineFilesReadAgain};
 
 /// What is refuted is false: no assignment satisfies the clauses and makes all the literals true.
 pub fn refutation_is_sound()
@@ -102,6 +102,11 @@ pub fn numbers_are_shortest()
 /// A formula within the limits is read again from its text.
 pub fn formulas_read_again()
     ensures { FormulasReadAgain }
+{}
+
+/// So is a formula of some of its clauses, by their numbers.
+pub fn selections_read_again()
+    ensures { SelectionsReadAgain }
 {}
 
 /// An item of a proof by hints is read again from its text, whatever follows, and none of it passes a
