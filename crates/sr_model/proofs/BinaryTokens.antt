@@ -6,7 +6,7 @@ use Rattle.std.proofs.lemmas.Bool.Decides.{nat_tests}
 use Rattle.std.proofs.lemmas.List.{append-nil, take_all}
 use Rattle.std.proofs.Math.Seq.{take-append-add}
 use Rattle.sr_base.specs.declared.names.TextKind.{TextKind}
-use Rattle.sr_base.specs.declared.names.TextKind.TheVariants.{BadWord, TooWide}
+use Rattle.sr_base.specs.declared.names.TextKind.TheVariants.{BadWord, TooWide, Unended}
 use Rattle.sr_model.specs.declared.tokens.Word.{Word}
 use Rattle.sr_model.specs.Texts.{Texts, finished, stopped, over, next}
 use Rattle.sr_model.specs.Tokens.{Run}
@@ -55,20 +55,20 @@ abbrev pub with_run : ℕ → ℕ → ℕ → Result Word TextKind → (ℕ → 
 with_run lists o place (Ok w) more = next (record { place = place; word = w }) (more (open_after lists o w))
 with_run lists o place (Err kind) more = stopped kind place
 
-said_first : (lists o place : ℕ) (bytes : List ℕ) (rs : List Run) (end : Texts) (s : Result Word TextKind) → run_said o bytes ≡ Some s
-    → said_in lists o (record { place = place; bytes = bytes } ∷ rs) end ≡ with_run lists o place s (λ k. said_in lists k rs end)
-said_first lists o place bytes rs end (Ok w) e = rw e refl
-said_first lists o place bytes rs end (Err kind) e = rw e refl
+said_first : (lists o place : ℕ) (bytes : List ℕ) (rs : List Run) (end cut : Texts) (s : Result Word TextKind) → run_said o bytes ≡ Some s
+    → said_in lists o (record { place = place; bytes = bytes } ∷ rs) end cut ≡ with_run lists o place s (λ k. said_in lists k rs end cut)
+said_first lists o place bytes rs end cut (Ok w) e = rw e refl
+said_first lists o place bytes rs end cut (Err kind) e = rw e refl
 
 with_same : (lists o place : ℕ) (s : Result Word TextKind) (f g : ℕ → Texts) → ((k : ℕ) → f k ≡ g k) → with_run lists o place s f ≡ with_run lists o place s g
 with_same lists o place (Ok w) f g h = ap (next (record { place = place; word = w })) (h (open_after lists o w))
 with_same lists o place (Err kind) f g h = refl
 
-all_room : (lists o room place : ℕ) (bytes : List ℕ) → nat_le (length bytes) room ≡ true → binary_from lists o room place bytes ≡ said_in lists o (runs_from place bytes) (finished (place + length bytes))
+all_room : (lists o room place : ℕ) (bytes : List ℕ) → nat_le (length bytes) room ≡ true → binary_from lists o room place bytes ≡ said_in lists o (runs_from place bytes) (finished (place + length bytes)) (stopped Unended (place + length bytes))
 unfolding binary_from
 all_room lists o room place bytes e = rw e refl
 
-not_all_room : (lists o room place : ℕ) (bytes : List ℕ) → nat_le (length bytes) room ≡ false → binary_from lists o room place bytes ≡ said_in lists o (runs_from place (take room bytes)) over
+not_all_room : (lists o room place : ℕ) (bytes : List ℕ) → nat_le (length bytes) room ≡ false → binary_from lists o room place bytes ≡ said_in lists o (runs_from place (take room bytes)) over over
 unfolding binary_from
 not_all_room lists o room place bytes e = rw e refl
 
@@ -86,9 +86,9 @@ binary_first lists o room place hs b more s g l le e = by_test (nat_le (length m
         let f : nat_le (length (hs ++ b ∷ more)) room ≡ true = grind (arith, nat_tests, size) in
         let p : place + length (hs ++ b ∷ more) ≡ place + (length hs + 1) + length more = omega (arith, size) in
         all_room lists o room place (hs ++ b ∷ more) f
-        ∙ ap (λ rs. said_in lists o rs (finished (place + length (hs ++ b ∷ more)))) (runs_whole place hs b more g l)
-        ∙ ap (λ (k : ℕ). said_in lists o (record { place = place; bytes = hs ++ b ∷ [] } ∷ runs_from (place + (length hs + 1)) more) (finished k)) p
-        ∙ said_first lists o place (hs ++ b ∷ []) (runs_from (place + (length hs + 1)) more) (finished (place + (length hs + 1) + length more)) s e
+        ∙ ap (λ rs. said_in lists o rs (finished (place + length (hs ++ b ∷ more))) (stopped Unended (place + length (hs ++ b ∷ more)))) (runs_whole place hs b more g l)
+        ∙ ap (λ (k : ℕ). said_in lists o (record { place = place; bytes = hs ++ b ∷ [] } ∷ runs_from (place + (length hs + 1)) more) (finished k) (stopped Unended k)) p
+        ∙ said_first lists o place (hs ++ b ∷ []) (runs_from (place + (length hs + 1)) more) (finished (place + (length hs + 1) + length more)) (stopped Unended (place + (length hs + 1) + length more)) s e
         ∙ with_same lists o place s _ _ (λ k. sym (all_room lists k (room - (length hs + 1)) (place + (length hs + 1)) more t))
 
     cut : nat_le (length more) (room - (length hs + 1)) ≡ false
@@ -99,9 +99,9 @@ binary_first lists o room place hs b more s g l le e = by_test (nat_le (length m
         let split : room ≡ length hs + suc left = omega arith in
         let front : take room (hs ++ b ∷ more) ≡ hs ++ b ∷ take left more = ap (λ (k : ℕ). take k (hs ++ b ∷ more)) split ∙ take-append-add hs (b ∷ more) (suc left) in
         not_all_room lists o room place (hs ++ b ∷ more) f
-        ∙ ap (λ bs. said_in lists o (runs_from place bs) over) front
-        ∙ ap (λ rs. said_in lists o rs over) (runs_whole place hs b (take left more) g l)
-        ∙ said_first lists o place (hs ++ b ∷ []) (runs_from (place + (length hs + 1)) (take left more)) over s e
+        ∙ ap (λ bs. said_in lists o (runs_from place bs) over over) front
+        ∙ ap (λ rs. said_in lists o rs over over) (runs_whole place hs b (take left more) g l)
+        ∙ said_first lists o place (hs ++ b ∷ []) (runs_from (place + (length hs + 1)) (take left more)) over over s e
         ∙ with_same lists o place s _ _ (λ k. sym (not_all_room lists k left (place + (length hs + 1)) more t))
 
 -- the end of the file, and of what may be read
@@ -133,19 +133,19 @@ binary_stops : (lists o room place h : ℕ) (hs more : List ℕ) (kind : TextKin
     → binary_from lists o room place ((h ∷ hs) ++ more) ≡ stopped kind place
 binary_stops lists o room place h hs more kind g le e = by_test (nat_le (length ((h ∷ hs) ++ more)) room) whole cut
   where
-    stops : (bs : List ℕ) (end : Texts) → said_in lists o (runs_from place ((h ∷ hs) ++ bs)) end ≡ stopped kind place
-    stops bs end =
+    stops : (bs : List ℕ) (end cut : Texts) → said_in lists o (runs_from place ((h ∷ hs) ++ bs)) end cut ≡ stopped kind place
+    stops bs end cut =
         let r = runs_open place h hs bs g in
-        ap (λ rs. said_in lists o rs end) r.2 ∙ said_first lists o place ((h ∷ hs) ++ r.0) r.1 end (Err kind) (e r.0)
+        ap (λ rs. said_in lists o rs end cut) r.2 ∙ said_first lists o place ((h ∷ hs) ++ r.0) r.1 end cut (Err kind) (e r.0)
 
     whole : nat_le (length ((h ∷ hs) ++ more)) room ≡ true → binary_from lists o room place ((h ∷ hs) ++ more) ≡ stopped kind place
-    whole t = all_room lists o room place ((h ∷ hs) ++ more) t ∙ stops more (finished (place + length ((h ∷ hs) ++ more)))
+    whole t = all_room lists o room place ((h ∷ hs) ++ more) t ∙ stops more (finished (place + length ((h ∷ hs) ++ more))) (stopped Unended (place + length ((h ∷ hs) ++ more)))
 
     cut : nat_le (length ((h ∷ hs) ++ more)) room ≡ false → binary_from lists o room place ((h ∷ hs) ++ more) ≡ stopped kind place
     cut t =
         not_all_room lists o room place ((h ∷ hs) ++ more) t
-        ∙ ap (λ bs. said_in lists o (runs_from place bs) over) (front_of room (h ∷ hs) more le)
-        ∙ stops (take (room - suc (length hs)) more) over
+        ∙ ap (λ bs. said_in lists o (runs_from place bs) over over) (front_of room (h ∷ hs) more le)
+        ∙ stops (take (room - suc (length hs)) more) over over
 
 -- where an item begins, one byte is enough
 pub binary_begins : (lists room place b : ℕ) (bs : List ℕ) → 0 < room
@@ -173,12 +173,11 @@ binary_long lists o room place (h ∷ hs) more g n r = binary_stops lists (suc o
         ap number_said first ∙ rw (g, ten) refl
 
 -- a number that the file or the limit cuts off
-pub binary_cut : (lists o room place : ℕ) (hs : List ℕ) → go_on hs → length hs < 10 → length hs ≤ room → binary_from lists (suc o) room place hs ≡ finished (place + length hs)
-binary_cut lists o room place [] g n r = binary_end lists (suc o) room place ∙ ap finished (omega arith)
-binary_cut lists o room place (h ∷ hs) g n r =
+pub binary_cut : (lists o room place h : ℕ) (hs : List ℕ) → go_on (h ∷ hs) → suc (length hs) < 10 → suc (length hs) ≤ room → binary_from lists (suc o) room place (h ∷ hs) ≡ stopped Unended (place + suc (length hs))
+binary_cut lists o room place h hs g n r =
     let f : nat_le (length (h ∷ hs)) room ≡ true = grind (arith, nat_tests) in
     all_room lists (suc o) room place (h ∷ hs) f
-    ∙ ap (λ rs. said_in lists (suc o) rs (finished (place + suc (length hs)))) (runs_cut place h hs g)
+    ∙ ap (λ rs. said_in lists (suc o) rs (finished (place + suc (length hs))) (stopped Unended (place + suc (length hs)))) (runs_cut place h hs g)
     ∙ rw (says_none h hs g n) refl
 
 pub binary_short : (lists o place : ℕ) (hs : List ℕ) (b : ℕ) (more : List ℕ) → go_on hs → length hs < 10 → binary_from lists (suc o) (length hs) place (hs ++ b ∷ more) ≡ over
@@ -188,6 +187,6 @@ binary_short lists o place (h ∷ hs) b more g n =
     let f : nat_le (length ((h ∷ hs) ++ b ∷ more)) (suc (length hs)) ≡ false = grind (arith, nat_tests, size) in
     let left : suc (length hs) - suc (length hs) ≡ 0 = omega arith in
     not_all_room lists (suc o) (suc (length hs)) place ((h ∷ hs) ++ b ∷ more) f
-    ∙ ap (λ bs. said_in lists (suc o) (runs_from place bs) over) (front_of (suc (length hs)) (h ∷ hs) (b ∷ more) (omega arith) ∙ ap (λ (k : ℕ). (h ∷ hs) ++ take k (b ∷ more)) left ∙ append-nil (h ∷ hs))
-    ∙ ap (λ rs. said_in lists (suc o) rs over) (runs_cut place h hs g)
+    ∙ ap (λ bs. said_in lists (suc o) (runs_from place bs) over over) (front_of (suc (length hs)) (h ∷ hs) (b ∷ more) (omega arith) ∙ ap (λ (k : ℕ). (h ∷ hs) ++ take k (b ∷ more)) left ∙ append-nil (h ∷ hs))
+    ∙ ap (λ rs. said_in lists (suc o) rs over over) (runs_cut place h hs g)
     ∙ rw (says_none h hs g n) refl

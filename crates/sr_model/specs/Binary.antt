@@ -5,7 +5,7 @@
 use Rattle.std.specs.Prelude.{ℕ, zero, suc, ◌+◌, ◌-◌, ◌*◌, ◌/◌, ◌%◌, ◌==◌, nat_le, nat_lt, pos, List, [], ◌∷◌, length, take, Bool, Option, Some, None, Result, Ok, Err, if◌then◌else◌}
 use Rattle.std.specs.List.{list_any}
 use Rattle.sr_base.specs.declared.names.TextKind.{TextKind}
-use Rattle.sr_base.specs.declared.names.TextKind.TheVariants.{BadWord, TooWide}
+use Rattle.sr_base.specs.declared.names.TextKind.TheVariants.{BadWord, TooWide, Unended}
 use Rattle.sr_model.specs.declared.tokens.Word.{Word}
 use Rattle.sr_model.specs.declared.tokens.Word.TheVariants as word
 use Rattle.sr_model.specs.Words.{number_word}
@@ -58,22 +58,22 @@ open_after lists open_lists word.Del = 1
 open_after lists open_lists (word.Number (pos zero)) = open_lists - 1
 open_after lists open_lists w = open_lists
 
--- a run that says a word is a token, and more follows
+-- a run that says a word is a token, and more follows; one that says nothing yet is cut off
 abbrev pub by_run : ℕ → Option (Result Word TextKind) → Texts → (Word → Texts) → Texts
-by_run place None end more = end
-by_run place (Some (Ok w)) end more = next (record { place = place; word = w }) (more w)
-by_run place (Some (Err kind)) end more = stopped kind place
+by_run place None cut more = cut
+by_run place (Some (Ok w)) cut more = next (record { place = place; word = w }) (more w)
+by_run place (Some (Err kind)) cut more = stopped kind place
 
--- what the runs say, and then this
-abbrev pub said_in : ℕ → ℕ → List Run → Texts → Texts
-said_in lists open_lists [] end = end
-said_in lists open_lists (r ∷ rs) end = by_run r.place (run_said open_lists r.bytes) end (λ w. said_in lists (open_after lists open_lists w) rs end)
+-- what the runs say, with what stands at their end, and where the last is cut off
+abbrev pub said_in : ℕ → ℕ → List Run → Texts → Texts → Texts
+said_in lists open_lists [] end cut = end
+said_in lists open_lists (r ∷ rs) end cut = by_run r.place (run_said open_lists r.bytes) cut (λ w. said_in lists (open_after lists open_lists w) rs end cut)
 
 -- what the rest of a binary file says from a place on, where so many lists are open and so many bytes may be read
 unfoldable pub binary_from : ℕ → ℕ → ℕ → ℕ → List ℕ → Texts
 binary_from lists open_lists room place bytes =
-    if nat_le (length bytes) room then said_in lists open_lists (runs_from place bytes) (finished (place + length bytes))
-    else said_in lists open_lists (runs_from place (take room bytes)) over
+    if nat_le (length bytes) room then said_in lists open_lists (runs_from place bytes) (finished (place + length bytes)) (stopped Unended (place + length bytes))
+    else said_in lists open_lists (runs_from place (take room bytes)) over over
 
 -- what a whole binary file says, of which so many bytes may be read
 abbrev pub spelled_binary : ℕ → ℕ → List ℕ → Texts
