@@ -1,6 +1,6 @@
 -- Numbers that are written, in text and in binary.
 use Rattle.std.proofs.Common.{◌≡◌, ◌∙◌, ℕ, zero, suc, ◌+◌, ◌-◌, ◌*◌, ◌^◌, ◌/◌, ◌%◌, ◌<◌, ◌≤◌, ◌&&◌, Bool, true, false, refl, sym, ap, subst, List, [], ◌∷◌, ◌++◌, length, take, Some, Ok, ℤ, pos, negsuc, arith}
-use Rattle.std.specs.Prelude.{nat_abs, nat_lt, ◌==◌, decimal}
+use Rattle.std.specs.Prelude.{All, nat_abs, nat_lt, ◌==◌, decimal}
 use Rattle.std.specs.Fmt.{signed_decimal}
 use Rattle.std.specs.Int.{IsInRange}
 use Rattle.std.specs.List.{list_any, list_all}
@@ -12,7 +12,7 @@ use Rattle.std.proofs.Math.Nat.{pow-suc}
 use Rattle.sr_model.specs.declared.tokens.Word.TheVariants as word
 use Rattle.sr_model.specs.Words.{is_white, is_digit, value_after, signed, number_word, number_by, said_by}
 use Rattle.sr_model.specs.Tokens.{is_comment}
-use Rattle.sr_model.specs.Binary.{is_last, value_of, value_word, number_said}
+use Rattle.sr_model.specs.Binary.{is_last, low_bits, value_of, value_word, number_said}
 use Rattle.sr_model.specs.Writing.{value_for, groups_for, number_bytes}
 use Rattle.sr_model.proofs.Soundness.{by_test}
 use Rattle.sr_model.proofs.TextTokens.{is_dark, IsToken}
@@ -128,6 +128,7 @@ pub record IsSpelling (bytes : List ℕ) (v most : ℕ) : Type 0 where
 one_group : (most v : ℕ) → nat_lt v 128 ≡ true → IsSpelling (v ∷ []) v (suc most)
 one_group most v t =
     let small : v < 128 = grind (arith, nat_tests) in
+    let low : low_bits v ≡ v = rw t refl in
     record { heads = []; end = v; split = refl; goes_on = refl; ends = t; value = omega arith; short = omega arith }
 
 more_groups : (most v : ℕ) (rest : List ℕ) → IsSpelling rest (v / 128) most → IsSpelling ((v % 128 + 128) ∷ rest) v (suc most)
@@ -137,7 +138,7 @@ more_groups most v rest r = record {
   split = ap (λ x. (v % 128 + 128) ∷ x) r.split;
   goes_on = let t : is_last (v % 128 + 128) ≡ false = grind (arith, nat_tests) in rw t r.goes_on;
   ends = r.ends;
-  value = omega (arith, r.value);
+  value = let t : is_last (v % 128 + 128) ≡ false = grind (arith, nat_tests) in let low : low_bits (v % 128 + 128) ≡ v % 128 + 128 - 128 = rw t refl in omega (arith, r.value);
   short = omega (arith, r.short);
 }
 
@@ -191,16 +192,20 @@ some_bytes : (bs : List ℕ) → 0 < value_of bs → 0 < length bs
 some_bytes [] h = absurd (omega arith)
 some_bytes (c ∷ cs) h = omega arith
 
-groups_shortest : (most v : ℕ) (bytes : List ℕ) → 0 < length bytes → value_of bytes ≡ v → length (groups_for most v) ≤ length bytes
+low_small : (b : ℕ) → b < 256 → low_bits b < 128
+low_small b h = by_test (is_last b) (λ t. rw t (grind (arith, nat_tests))) (λ t. rw t (omega arith))
+
+groups_shortest : (most v : ℕ) (bytes : List ℕ) → All (λ b. b < 256) bytes → 0 < length bytes → value_of bytes ≡ v → length (groups_for most v) ≤ length bytes
 unfolding groups_for
-groups_shortest zero v bytes some e = omega arith
-groups_shortest (suc most) v [] some e = absurd (omega arith)
-groups_shortest (suc most) v (b ∷ bs) some e = by_test (nat_lt v 128)
+groups_shortest zero v bytes a some e = omega arith
+groups_shortest (suc most) v [] a some e = absurd (omega arith)
+groups_shortest (suc most) v (b ∷ bs) a some e = by_test (nat_lt v 128)
     (λ t. rw t (omega arith))
     (λ t.
     let large : 128 ≤ v = grind (arith, nat_tests) in
+    let low : low_bits b < 128 = low_small b (a 0 b (omega arith)) in
     let rest : value_of bs ≡ v / 128 = omega arith in
-    rw t (omega (arith, groups_shortest most (v / 128) bs (some_bytes bs (omega arith)) rest)))
+    rw t (omega (arith, groups_shortest most (v / 128) bs (λ k d h. a (suc k) d (omega arith)) (some_bytes bs (omega arith)) rest)))
 
 -- what says a number has its value
 number_sized : (negative : Bool) (size : ℕ) (x : ℤ) → number_word negative size ≡ Ok (word.Number x) → (signed negative size ≡ x) × ((negative && size == 0) ≡ false)
@@ -230,9 +235,9 @@ any_some : (bytes : List ℕ) → list_any is_last bytes ≡ true → 0 < length
 any_some [] h = absurd cc
 any_some (b ∷ bs) h = omega arith
 
-pub number_shortest : (x : ℤ) (bytes : List ℕ) → number_said bytes ≡ Some (Ok (word.Number x)) → length (number_bytes x) ≤ length bytes
-number_shortest x bytes h = by_test (list_any is_last bytes)
-    (λ e. let says = rw e at h in let ok : value_word (value_of bytes) ≡ Ok (word.Number x) = cc in groups_shortest 10 (value_for x) bytes (any_some bytes e) (sym (says_value (value_of bytes) x ok)))
+pub number_shortest : (x : ℤ) (bytes : List ℕ) → All (λ b. b < 256) bytes → number_said bytes ≡ Some (Ok (word.Number x)) → length (number_bytes x) ≤ length bytes
+number_shortest x bytes a h = by_test (list_any is_last bytes)
+    (λ e. let says = rw e at h in let ok : value_word (value_of bytes) ≡ Ok (word.Number x) = cc in groups_shortest 10 (value_for x) bytes a (any_some bytes e) (sym (says_value (value_of bytes) x ok)))
     (λ e. by_test (length bytes == 10)
     (λ t. let bad = rw (e, t) at h in absurd cc)
     (λ t. let bad = rw (e, t) at h in absurd cc))

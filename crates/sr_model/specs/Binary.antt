@@ -26,10 +26,14 @@ abbrev pub runs_from : ℕ → List ℕ → List Run
 runs_from place [] = []
 runs_from place (b ∷ bs) = if is_last b then record { place = place; bytes = b ∷ [] } ∷ runs_from (place + 1) bs else joined place b (runs_from (place + 1) bs)
 
+-- a byte without its top bit
+abbrev pub low_bits : ℕ → ℕ
+low_bits b = if is_last b then b else b - 128
+
 -- the value of the bytes of a number
 abbrev pub value_of : List ℕ → ℕ
 value_of [] = 0
-value_of (b ∷ bs) = b % 128 + 128 * value_of bs
+value_of (b ∷ bs) = low_bits b + 128 * value_of bs
 
 -- the lowest bit of a value is the sign, and the others are the size
 abbrev pub value_word : ℕ → Result Word TextKind

@@ -84,7 +84,7 @@ NumbersReadAgain = (x : ℤ) → nat_abs x < 2 ^ 63
 
 -- no other bytes that say the number are fewer
 abbrev pub NumbersAreShortest : Type 0
-NumbersAreShortest = (x : ℤ) (bytes : List ℕ) → number_said bytes ≡ Some (Ok (word.Number x)) → length (number_bytes x) ≤ length bytes
+NumbersAreShortest = (x : ℤ) (bytes : List ℕ) → All (λ b. b < 256) bytes → number_said bytes ≡ Some (Ok (word.Number x)) → length (number_bytes x) ≤ length bytes
 
 -- a formula that the limit of bytes holds
 abbrev pub FormulasReadAgain : Type 0
