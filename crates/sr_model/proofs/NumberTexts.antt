@@ -173,7 +173,7 @@ value_says (negsuc n) h =
     rw (sign, size) (word_minus n h)
 
 -- bytes of which the last ends the number have one without the top bit
-any_last : (hs : List ℕ) (b : ℕ) → is_last b ≡ true → list_any is_last (hs ++ b ∷ []) ≡ true
+pub any_last : (hs : List ℕ) (b : ℕ) → is_last b ≡ true → list_any is_last (hs ++ b ∷ []) ≡ true
 any_last [] b l = rw l refl
 any_last (h ∷ hs) b l = by_test (is_last h) (λ e. rw e refl) (λ e. rw e (any_last hs b l))
 
