@@ -180,7 +180,7 @@ number_tells lists o room place b bs limited t =
 
 -- the end of the file
 end_stands : (lists o room place : ℕ) → Stand lists o room place [] (reads (record { place = place; word = word.End }) [])
-end_stands lists o room place = (omega arith, binary_end lists o room place, λ e. (refl, refl))
+end_stands lists o room place = (omega arith, binary_end lists o room place, λ e. (refl, refl, refl))
 
 -- where an item begins
 item_stands : (lists room place : ℕ) (bytes : List ℕ) → Stand lists 0 room place bytes (item_at room place bytes)

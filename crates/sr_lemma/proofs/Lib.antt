@@ -1,1 +1,3 @@
 pub mod BinaryStands
+pub mod FrontLemmas
+pub mod NumberLemmas

@@ -1,5 +1,5 @@
 -- What holds of the definitions alone.
-use Rattle.std.specs.Prelude.{◌≡◌, ℕ, ◌+◌, ◌-◌, ◌≤◌, Bool, List, length}
+use Rattle.std.specs.Prelude.{◌≡◌, ℕ, ◌+◌, ◌-◌, ◌≤◌, Bool, List, [], length}
 use Rattle.sr_model.specs.declared.tokens.Word.{Word}
 use Rattle.sr_model.specs.declared.tokens.Word.TheVariants.{End}
 use Rattle.sr_model.specs.Texts.{Texts, finished, stopped, over, next}
@@ -17,7 +17,7 @@ abbrev pub Stand : ℕ → ℕ → ℕ → ℕ → List ℕ → TokenRead → Ty
 Stand lists open_lists room place bytes (reads t rest) = (length rest ≤ length bytes)
     × (binary_from lists open_lists room place bytes
     ≡ front_word t.place t.word (binary_from lists (open_after lists open_lists t.word) (room - (length bytes - length rest)) (place + (length bytes - length rest)) rest))
-    × (t.word ≡ End → (length rest ≡ length bytes) × (t.place ≡ place))
+    × (t.word ≡ End → (bytes ≡ []) × (rest ≡ []) × (t.place ≡ place))
 Stand lists open_lists room place bytes (misspells kind at) = binary_from lists open_lists room place bytes ≡ stopped kind at
 Stand lists open_lists room place bytes passes = binary_from lists open_lists room place bytes ≡ over
 

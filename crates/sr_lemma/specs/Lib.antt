@@ -1,2 +1,4 @@
 pub mod Left
 pub mod Laws
+pub mod Reads
+pub mod Told

@@ -1,6 +1,10 @@
 //! Lemmas, and how files spell them.
 #![tactic(auto)]
 
+mod front;
 mod laws;
+mod literals;
 
+pub use front::{misplaced, next_token};
 pub use laws::binary_tokens_stand;
+pub use literals::{Literals, read_literals};
