@@ -1,3 +1,4 @@
 pub mod BinaryStands
 pub mod FrontLemmas
 pub mod NumberLemmas
+pub mod SplitLemmas

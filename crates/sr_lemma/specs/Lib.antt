@@ -2,3 +2,4 @@ pub mod Left
 pub mod Laws
 pub mod Reads
 pub mod Told
+pub mod Parts

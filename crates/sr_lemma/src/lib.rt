@@ -4,7 +4,9 @@
 mod front;
 mod laws;
 mod literals;
+mod witnesses;
 
 pub use front::{misplaced, next_token};
 pub use laws::binary_tokens_stand;
 pub use literals::{Literals, read_literals};
+pub use witnesses::{find_clause, find_witness};
