@@ -1,21 +1,21 @@
 -- Reading a binary file token by token gives the tokens of the plain definition.
-use Rattle.std.proofs.Common.{◌≡◌, ◌∙◌, ℕ, zero, suc, ◌+◌, ◌-◌, ◌*◌, ◌^◌, ◌/◌, ◌%◌, ◌<◌, ◌≤◌, ◌==◌, ◌&&◌, Bool, true, false, refl, sym, ap, subst, List, [], ◌∷◌, ◌++◌, length, take, Option, Some, None, Ok, Err, ℤ, pos, negsuc, arith, length-append, append_assoc}
+use Rattle.std.proofs.Common.{◌≡◌, ◌∙◌, ℕ, zero, suc, ◌+◌, ◌-◌, ◌^◌, ◌/◌, ◌%◌, ◌<◌, ◌≤◌, ◌==◌, ◌&&◌, Bool, true, false, refl, sym, ap, subst, List, [], ◌∷◌, ◌++◌, length, take, Some, Ok, Err, ℤ, arith, length-append}
 use Rattle.std.specs.Prelude.{nat_lt, Result}
 use Rattle.std.specs.List.{list_any}
 use Rattle.std.proofs.lemmas.Bool.Decides.{nat_tests}
 use Rattle.std.proofs.lemmas.List.{take_all}
 use Rattle.sr_base.specs.declared.names.TextKind.{TextKind}
-use Rattle.sr_base.specs.declared.names.TextKind.TheVariants.{BadNumber, BadWord, TooWide, Unended}
+use Rattle.sr_base.specs.declared.names.TextKind.TheVariants.{BadWord}
 use Rattle.sr_model.specs.declared.tokens.Word.{Word}
 use Rattle.sr_model.specs.declared.tokens.Word.TheVariants as word
-use Rattle.sr_model.specs.Texts.{Texts, finished, stopped, over, next}
+use Rattle.sr_model.specs.Texts.{Texts, stopped, next}
 use Rattle.sr_model.specs.Words.{signed, number_word}
 use Rattle.sr_model.specs.Binary as model
 use Rattle.sr_model.specs.Binary.{is_last, low_bits, value_of, number_said, open_after, binary_from}
 use Rattle.sr_model.proofs.Soundness.{by_test}
 use Rattle.sr_model.proofs.BinaryTokens.{go_on, with_run, binary_first, binary_begins, binary_end, binary_over, binary_long, binary_cut, binary_short}
 use Rattle.sr_model.proofs.NumberTexts.{any_last}
-use Rattle.sr_scan.specs.Binary.{ValueRead, value, long, ends, limited, plus, value_at, value_word, TokenRead, reads, misspells, passes, number_by, number_at, item_at, token_at}
+use Rattle.sr_scan.specs.Binary.{ValueRead, value, long, ends, limited, plus, value_at, value_word, reads, number_by, number_at, item_at, token_at}
 use Rattle.sr_lemma.specs.Left.{IsStart}
 use Rattle.sr_lemma.specs.Laws.{front_word, Stand}
 
@@ -157,8 +157,7 @@ number_stands lists o room place bs v rest e = subst (λ s. Stand lists (suc o) 
     at (Err kind) h = stream ∙ ap (λ s. with_run lists (suc o) place s (λ k. binary_from lists k (room - (length e.heads + 1)) (place + (length e.heads + 1)) rest)) h
     at (Ok w) h =
         let x = number_only v w h in
-        let far : length e.heads + 1 ≡ length bs - length rest = omega (arith, size) in
-        (
+        let far : length e.heads + 1 ≡ length bs - length rest = omega (arith, size) in (
           omega (arith, size),
           stream
               ∙ ap (λ s. with_run lists (suc o) place s (λ k. binary_from lists k (room - (length e.heads + 1)) (place + (length e.heads + 1)) rest)) h

@@ -1,25 +1,24 @@
 -- A token of a binary file, as its reader gives it.
-use Rattle.std.proofs.Common.{◌≡◌, ◌∙◌, ℕ, ◌+◌, ◌-◌, ◌<◌, ◌≤◌, Bool, refl, sym, ap, subst, List, [], length, Option, Some, None, Ok, Err, arith}
-use Rattle.std.specs.Prelude.{Result, option_map}
+use Rattle.std.proofs.Common.{◌≡◌, ◌∙◌, ℕ, ◌+◌, ◌-◌, Bool, refl, sym, ap, subst, List, length, Option, Some, None, Ok, Err, arith}
+use Rattle.std.specs.Prelude.{option_map}
 use Rattle.sr_base.specs.declared.names.Form.{Form}
 use Rattle.sr_base.specs.declared.names.Form.TheVariants.{Binary}
-use Rattle.sr_base.specs.declared.names.TextKind.{TextKind}
 use Rattle.sr_desk.specs.Outside.{Outside}
 use Rattle.sr_desk.specs.Reader.{Reader}
 use Rattle.sr_desk.specs.Next.{remaining, IsSameReader}
 use Rattle.sr_model.specs.declared.tokens.Word.{Word}
 use Rattle.sr_model.specs.declared.tokens.Word.TheVariants as word
 use Rattle.sr_model.specs.declared.tokens.Token.{Token}
-use Rattle.sr_model.specs.Texts.{Texts, finished, stopped, over, next}
+use Rattle.sr_model.specs.Texts.{Texts, finished}
 use Rattle.sr_model.specs.Binary.{open_after, binary_from}
 use Rattle.sr_model.proofs.BinaryTokens.{binary_end}
 use Rattle.sr_scan.specs.Left.{StandsFirst}
 use Rattle.sr_scan.specs.Binary.{TokenRead, reads, misspells, passes, token_at}
-use Rattle.sr_scan.specs.BinaryLeft.{ReadsToken, GivesBinary}
+use Rattle.sr_scan.specs.BinaryLeft.{GivesBinary}
 use Rattle.sr_scan.specs.declared.token.ScanStop.{ScanStop}
 use Rattle.sr_scan.specs.declared.token.ScanStop.TheVariants as scan
 use Rattle.sr_wit.specs.declared.fault.InFault.{InFault}
-use Rattle.sr_lemma.specs.Left.{tokens_left, IsStart}
+use Rattle.sr_lemma.specs.Left.{IsStart}
 use Rattle.sr_lemma.specs.Laws.{front_word, Stand}
 use Rattle.sr_lemma.specs.Reads.{fault_by, GivesFront}
 use Rattle.sr_lemma.proofs.BinaryStands.{tokens_stand}
@@ -60,8 +59,7 @@ binary_token at_start old new before after t same given lists o s = first_of_wor
     let limit : new.limit ≡ old.limit = same.limit in
     let taken : old.taken + length b.value ≡ new.taken + length r.rest = r.taken in
     let room_is : old.limit - old.taken - (length b.value - length r.rest) ≡ new.limit - new.taken = omega (arith, stand.0, limit) in
-    let place_is : old.taken + (length b.value - length r.rest) ≡ new.taken = omega (arith, stand.0) in
-    (
+    let place_is : old.taken + (length b.value - length r.rest) ≡ new.taken = omega (arith, stand.0) in (
       rest,
       sym b.made ∙ stand.1
           ∙ ap (λ (k : ℕ). front_word t.place t.word (binary_from lists (open_after lists o t.word) k (old.taken + (length b.value - length r.rest)) r.rest)) room_is

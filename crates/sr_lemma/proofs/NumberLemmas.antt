@@ -1,5 +1,5 @@
 -- What a token does to the numbers that are read.
-use Rattle.std.proofs.Common.{◌≡◌, ◌∙◌, ℕ, ℤ, pos, negsuc, zero, suc, ◌-◌, ◌<◌, ◌≤◌, refl, sym, ap, subst, map, List, [], ◌∷◌, ◌++◌, true, false, Option, Some, Ok, Err, arith}
+use Rattle.std.proofs.Common.{◌≡◌, ◌∙◌, ℕ, ℤ, pos, negsuc, zero, suc, ◌<◌, ◌≤◌, refl, sym, ap, subst, map, List, [], ◌∷◌, ◌++◌, true, false, Option, Some, Ok, Err, arith}
 use Rattle.std.specs.Prelude.{nat_abs, nat_le}
 use Rattle.std.proofs.lemmas.Bool.Decides.{nat_tests}
 use Rattle.std.proofs.lemmas.List.{map_push}
@@ -15,7 +15,7 @@ use Rattle.sr_model.specs.declared.tokens.Word.{Word}
 use Rattle.sr_model.specs.declared.tokens.Word.TheVariants as word
 use Rattle.sr_model.specs.Texts.{Texts, finished, next}
 use Rattle.sr_model.specs.Binary.{open_after}
-use Rattle.sr_model.specs.Lsr.{NumbersRead, numbers, bad, above, by_number, by_word, numbers_after}
+use Rattle.sr_model.specs.Lsr.{NumbersRead, bad, above, by_number, by_word, numbers_after}
 use Rattle.sr_scan.specs.Left.{StandsFirst}
 use Rattle.sr_wit.specs.declared.fault.InFault.{InFault}
 use Rattle.sr_wit.specs.declared.fault.InFault.TheVariants.{Text, Limit, Source, NoMemory}

@@ -3,3 +3,4 @@ pub mod Laws
 pub mod Reads
 pub mod Told
 pub mod Parts
+pub mod Lines

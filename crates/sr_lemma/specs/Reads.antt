@@ -1,10 +1,9 @@
 -- How what a reader gives and what is left to it spell what stood at its front.
-use Rattle.std.specs.Prelude.{ℕ, suc, ◌≡◌, List, [], map, Option, Some, None, Result, Ok, Err}
+use Rattle.std.specs.Prelude.{ℕ, suc, ◌≡◌, List, [], map, Option, Some, Result, Ok, Err}
 use Rattle.sr_base.specs.Literal.{Literal, number}
 use Rattle.sr_base.specs.declared.names.Form.{Form}
 use Rattle.sr_base.specs.declared.names.TextKind.{TextKind}
 use Rattle.sr_base.specs.declared.names.TextKind.TheVariants.{BadWord, Unended}
-use Rattle.sr_base.specs.declared.names.LimitKind.{LimitKind}
 use Rattle.sr_base.specs.declared.names.LimitKind.TheVariants as limit
 use Rattle.sr_desk.specs.Outside.{Outside, Rose}
 use Rattle.sr_desk.specs.Reader.{Reader}

@@ -3,10 +3,12 @@
 
 mod front;
 mod laws;
+mod lemma;
 mod literals;
 mod witnesses;
 
 pub use front::{misplaced, next_token};
 pub use laws::binary_tokens_stand;
+pub use lemma::{DsrLine, Lemma};
 pub use literals::{Literals, read_literals};
 pub use witnesses::{find_clause, find_witness};

@@ -1,5 +1,3 @@
-use Rattle.std.proofs.Common.{◌≡◌, sym, subst}
-use Rattle.sr_base.specs.declared.names.Form.{Form}
 use Rattle.sr_lemma.proofs.FrontLemmas.{binary_token, binary_fault}
 use Rattle.sr_lemma.proofs.front.next_token.Goals as goal
 

@@ -1,4 +1,4 @@
-use Rattle.std.proofs.Common.{rules, pos, ◌≡◌, ◌∙◌, ◌++◌, ◌∷◌, ◌≤◌, ◌<◌, [], map, ap, sym, refl, subst, arith}
+use Rattle.std.proofs.Common.{rules, pos, ◌≡◌, ◌++◌, ◌∷◌, ◌≤◌, ◌<◌, [], refl, arith}
 use Rattle.std.specs.Prelude.{nat_abs}
 use Rattle.std.proofs.lemmas.Int.{ints, to_z-of_z}
 use Rattle.std.proofs.lemmas.Grind.{common_steps}
