@@ -4,3 +4,4 @@ pub mod Reads
 pub mod Told
 pub mod Parts
 pub mod Lines
+pub mod Written
