@@ -83,13 +83,13 @@ at_default kind bound these t rest n =
     at_word kind bound these t rest ∙ by_word_default kind bound t.word t.place these rest (λ x. numbers_after kind bound (these ++ x ∷ []) rest) n
 
 -- the next token, at hand
-front_next : (old new : Option Texts) (t : Token) → StandsFirst old new t.place t.word → (all : Texts) → old ≡ Some all
+pub front_next : (old new : Option Texts) (t : Token) → StandsFirst old new t.place t.word → (all : Texts) → old ≡ Some all
     → (rest : Texts) × (new ≡ Some rest) × ((kind : LimitKind) (bound : ℕ) (these : List ℤ) → numbers_after kind bound these all ≡ numbers_after kind bound these (next t rest))
 unfolding numbers_after
 front_next old new t first all h = front_numbers old new t.place t.word first all h
 
 -- where there is no token, the numbers stop
-front_stop : (form : Form) (lists o : ℕ) (old new : Reader) (before after : Outside) (e : InFault) → GivesFront form lists o old new before after (Err e)
+pub front_stop : (form : Form) (lists o : ℕ) (old new : Reader) (before after : Outside) (e : InFault) → GivesFront form lists o old new before after (Err e)
     → (kind : LimitKind) (bound : ℕ) (these : List ℤ) (all : Texts) → tokens_left form lists o old before ≡ Some all → StopsNumbers e (numbers_after kind bound these all)
 unfolding numbers_after
 front_stop form lists o old new before after (Text fault place) given kind bound these all h = ap (numbers_after kind bound these) (given all h)

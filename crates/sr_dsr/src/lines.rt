@@ -1,0 +1,61 @@
+// Reading lines.
+ghost use Rattle.std.specs.Prelude.{◌≡◌, true, IsTrue, IfOk, IfSome, OnSome};
+ghost use Rattle.sr_desk.specs.Outside.{OnlyReads};
+ghost use Rattle.sr_desk.specs.Next.{IsSameReader};
+ghost use Rattle.sr_model.specs.Binary.{open_after};
+ghost use Rattle.sr_model.specs.Dsr.{LineHasPivot};
+ghost use Rattle.sr_lemma.specs.Left.{tokens_left};
+ghost use Rattle.sr_lemma.specs.Reads.{HasInCause};
+ghost use Rattle.sr_lemma.specs.Lines.{line_of};
+ghost use Rattle.sr_dsr.specs.Gives.{GivesLemmaLine, GivesDeletion, GivesLineBehind, GivesLine, TakesSome};
+
+use sr_base::{Clause, Form, Limits, TextKind};
+use sr_desk::{ByteReader, Desk};
+use sr_lemma::{DsrLine, Lemma, next_token, read_literals};
+use sr_model::{Token, Word};
+use sr_wit::InFault;
+use std::alloc::Global;
+
+/// The lemma of which the first token was read.
+fn read_lemma<D: Desk>(
+    alloc: Global,
+    form: Form,
+    first: Token,
+    reader: &mut ByteReader,
+    desk: &mut D,
+    limits: &Limits,
+) -> Result<DsrLine, InFault>
+    requires { IsTrue ((D.outside desk.old).slot reader.old.slot).reads }
+    ensures line { GivesLemmaLine limits.now first (tokens_left form 1 (open_after 1 1 first.word) reader.old (D.outside desk.old)) (tokens_left form 1 0 reader.new (D.outside desk.new)) result }
+    ensures pivot { IfOk result (λ l. LineHasPivot (line_of l)) }
+    ensures same { IsSameReader reader.old reader.new }
+    ensures only { OnlyReads reader.old.slot (D.outside desk.old) (D.outside desk.new) }
+    ensures cause { HasInCause reader.old.slot (D.outside desk.old) (D.outside desk.new) result }
+{
+    let literals = read_literals(alloc, form, limits.vars(), first, reader, desk)?;
+    let lemma = Lemma::from_literals(alloc, literals.lits.as_slice(), literals.end)?;
+    Ok(DsrLine::Add(lemma))
+}
+
+/// The deletion behind the token that tells it.
+fn read_deletion<D: Desk>(
+    alloc: Global,
+    form: Form,
+    reader: &mut ByteReader,
+    desk: &mut D,
+    limits: &Limits,
+) -> Result<DsrLine, InFault>
+    requires { IsTrue ((D.outside desk.old).slot reader.old.slot).reads }
+    ensures line { GivesDeletion limits.now (tokens_left form 1 1 reader.old (D.outside desk.old)) (tokens_left form 1 0 reader.new (D.outside desk.new)) result }
+    ensures pivot { IfOk result (λ l. LineHasPivot (line_of l)) }
+    ensures same { IsSameReader reader.old reader.new }
+    ensures only { OnlyReads reader.old.slot (D.outside desk.old) (D.outside desk.new) }
+    ensures cause { HasInCause reader.old.slot (D.outside desk.old) (D.outside desk.new) result }
+{
+    let first = next_token(form, false, reader, desk)?;
+    let literals = read_literals(alloc, form, limits.vars(), first, reader, desk)?;
+    match Clause::from_lits(alloc, literals.lits.as_slice()) {
+        Ok(clause) => Ok(DsrLine::Del(clause)),
+        Err(_) => Err(InFault::NoMemory),
+    }
+}
