@@ -1,5 +1,5 @@
 // Reading lines.
-ghost use Rattle.std.specs.Prelude.{◌≡◌, true, IsTrue, IfOk, IfSome, OnSome};
+ghost use Rattle.std.specs.Prelude.{◌≡◌, true, IsTrue, IsNone, IfOk, IfSome, OnSome};
 ghost use Rattle.sr_desk.specs.Outside.{OnlyReads};
 ghost use Rattle.sr_desk.specs.Next.{IsSameReader};
 ghost use Rattle.sr_model.specs.Binary.{open_after};
@@ -57,5 +57,44 @@ fn read_deletion<D: Desk>(
     match Clause::from_lits(alloc, literals.lits.as_slice()) {
         Ok(clause) => Ok(DsrLine::Del(clause)),
         Err(_) => Err(InFault::NoMemory),
+    }
+}
+
+fn misplaced(token: Token) -> InFault
+    ensures { result ≡ InFault.Text TextKind.BadWord token.place }
+{
+    InFault::Text {
+        kind: TextKind::BadWord,
+        place: token.place,
+    }
+}
+
+/// The line of a text that a token begins: a number a lemma, and `d` a deletion.
+fn text_line<D: Desk>(
+    alloc: Global,
+    token: Token,
+    reader: &mut ByteReader,
+    desk: &mut D,
+    limits: &Limits,
+) -> Result<Option<DsrLine>, InFault>
+    requires { IsTrue ((D.outside desk.old).slot reader.old.slot).reads }
+    ensures line { GivesLineBehind Form.Text limits.now token (tokens_left Form.Text 1 (open_after 1 0 token.word) reader.old (D.outside desk.old)) (tokens_left Form.Text 1 0 reader.new (D.outside desk.new)) result }
+    ensures end { IfOk result (λ o. IsNone o → token.word ≡ Word.End) }
+    ensures pivot { IfOk result (λ o. IfSome o (λ l. LineHasPivot (line_of l))) }
+    ensures same { IsSameReader reader.old reader.new }
+    ensures only { OnlyReads reader.old.slot (D.outside desk.old) (D.outside desk.new) }
+    ensures cause { HasInCause reader.old.slot (D.outside desk.old) (D.outside desk.new) result }
+{
+    match token.word {
+        Word::End => Ok(None),
+        Word::Number(_) => match read_lemma(alloc, Form::Text, token, reader, desk, limits) {
+            Ok(line) => Ok(Some(line)),
+            Err(fault) => Err(fault),
+        },
+        Word::Del => match read_deletion(alloc, Form::Text, reader, desk, limits) {
+            Ok(line) => Ok(Some(line)),
+            Err(fault) => Err(fault),
+        },
+        _ => Err(misplaced(token)),
     }
 }
