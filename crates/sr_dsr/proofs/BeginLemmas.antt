@@ -2,8 +2,12 @@
 use Rattle.std.proofs.Common.{◌≡◌, ◌∙◌, ℕ, ℤ, sym, ap, subst, refl, [], Option, Some, None, Ok, Err}
 use Rattle.std.specs.Prelude.{Result}
 use Rattle.sr_base.specs.Limits.{LimitValues}
+use Rattle.sr_base.specs.declared.names.Form.TheVariants.{Binary}
 use Rattle.sr_base.specs.declared.names.TextKind.TheVariants.{BadWord}
 use Rattle.sr_base.specs.declared.names.LimitKind.TheVariants as limit
+use Rattle.sr_desk.specs.Outside.{Outside}
+use Rattle.sr_desk.specs.Reader.{Reader}
+use Rattle.sr_model.specs.Binary.{open_after}
 use Rattle.sr_model.specs.declared.tokens.Token.{Token}
 use Rattle.sr_model.specs.declared.tokens.Word.{Word}
 use Rattle.sr_model.specs.declared.tokens.Word.TheVariants as word
@@ -14,6 +18,7 @@ use Rattle.sr_wit.specs.declared.fault.InFault.{InFault}
 use Rattle.sr_wit.specs.declared.fault.InFault.TheVariants.{Text, Limit, Source, NoMemory}
 use Rattle.sr_lemma.specs.declared.lemma.DsrLine.{DsrLine}
 use Rattle.sr_lemma.specs.Laws.{front_word}
+use Rattle.sr_lemma.specs.Left.{tokens_left}
 use Rattle.sr_dsr.specs.Gives.{StopsLine, GivesOf, GivesLineOf}
 
 -- what a word begins in text
@@ -84,3 +89,16 @@ stops_by f h NoMemory all same s = tt
 
 pub fault_by : (f h : Texts → LineRead) (old new left : Option Texts) (e : InFault) → ((all : Texts) → f all ≡ h all) → GivesOf h old new (Err e) → GivesLineOf f old left (Err e)
 fault_by f h old new left e same given all h' = stops_by f h e all (same all) (given all h')
+
+-- a byte that begins a line opens its one list
+opens : (w v : Word) (f : Texts → LineRead) (r : Reader) (o : Outside) (new : Option Texts) (result : Result (Option DsrLine) InFault) → w ≡ v → open_after 1 0 v ≡ 1
+    → GivesLineOf f (tokens_left Binary 1 1 r o) new result → GivesLineOf f (tokens_left Binary 1 (open_after 1 0 w) r o) new result
+opens w v f r o new result e n given = subst (λ (k : ℕ). GivesLineOf f (tokens_left Binary 1 k r o) new result) (sym (ap (open_after 1 0) e ∙ n)) given
+
+pub opens_lemma : (w : Word) (f : Texts → LineRead) (r : Reader) (o : Outside) (new : Option Texts) (result : Result (Option DsrLine) InFault) → w ≡ word.Add
+    → GivesLineOf f (tokens_left Binary 1 1 r o) new result → GivesLineOf f (tokens_left Binary 1 (open_after 1 0 w) r o) new result
+opens_lemma w f r o new result e given = opens w word.Add f r o new result e refl given
+
+pub opens_deletion : (w : Word) (f : Texts → LineRead) (r : Reader) (o : Outside) (new : Option Texts) (result : Result (Option DsrLine) InFault) → w ≡ word.Del
+    → GivesLineOf f (tokens_left Binary 1 1 r o) new result → GivesLineOf f (tokens_left Binary 1 (open_after 1 0 w) r o) new result
+opens_deletion w f r o new result e given = opens w word.Del f r o new result e refl given

@@ -18,12 +18,13 @@ use Rattle.sr_model.specs.Dsr.{LineRead, line, lemma_line, deletion_line, lemma_
 use Rattle.sr_wit.specs.declared.fault.InFault.{InFault}
 use Rattle.sr_wit.specs.declared.fault.InFault.TheVariants.{Text, Limit, Source, NoMemory}
 use Rattle.sr_lemma.specs.declared.lemma.Lemma.{Lemma}
+use Rattle.sr_lemma.specs.declared.lemma.DsrLine.{DsrLine}
 use Rattle.sr_lemma.specs.declared.lemma.DsrLine.TheVariants.{Add, Del}
 use Rattle.sr_lemma.specs.Left.{tokens_left}
 use Rattle.sr_lemma.specs.Lines.{lemma_told, line_of, GivesLemma}
 use Rattle.sr_lemma.specs.Reads.{WhereTold, StopsNumbers, GivesFront, GivesLiterals}
 use Rattle.sr_lemma.proofs.NumberLemmas.{front_next, front_stop}
-use Rattle.sr_dsr.specs.Gives.{StopsLine, GivesLemmaLine, GivesDeletion}
+use Rattle.sr_dsr.specs.Gives.{StopsLine, GivesLemmaLine, GivesLemmaBehind, GivesDeletion}
 
 -- what stops numbers stops the line that is made of them
 stops_lemma : (e : InFault) (n : NumbersRead) → StopsNumbers e n → StopsLine e (with_lemma n)
@@ -101,3 +102,30 @@ deletion_read form lim bound t old mid new before between after lits c end b nam
       ap with_deletion (f.2 limit.Vars lim.vars []) ∙ ap (λ (n : ℕ). with_deletion (numbers_after limit.Vars n [] (next t f.0))) (sym b) ∙ ap with_deletion s.2
           ∙ ap (λ ls. line (deletion_line (distinct ls)) s.0) named ∙ ap (λ ls. line (deletion_line ls) s.0) (sym made),
     )
+
+-- a lemma of which the first token stands behind what tells it
+pub lemma_unbegun : (form : Form) (lim : LimitValues) (old new : Reader) (before after : Outside) (left : Option Texts) (e : InFault) → GivesFront form 1 1 old new before after (Err e)
+    → GivesLemmaBehind lim (tokens_left form 1 1 old before) left (Err e)
+lemma_unbegun form lim old new before after left e given all h =
+    stops_lemma e (numbers_after limit.Vars lim.vars [] all) (front_stop form 1 1 old new before after e given limit.Vars lim.vars [] all h)
+
+stops_same : (e : InFault) (m n : LineRead) → m ≡ n → StopsLine e n → StopsLine e m
+stops_same (Text kind place) m n same s = same ∙ s
+stops_same (Limit kind) m n same s = same ∙ s
+stops_same Source m n same s = tt
+stops_same NoMemory m n same s = tt
+
+pub lemma_begun : (form : Form) (lim : LimitValues) (t : Token) (old mid new : Reader) (before between after : Outside) (result : Result DsrLine InFault) → GivesFront form 1 1 old mid before between (Ok t)
+    → GivesLemmaLine lim t (tokens_left form 1 (open_after 1 1 t.word) mid between) (tokens_left form 1 0 new after) result
+    → GivesLemmaBehind lim (tokens_left form 1 1 old before) (tokens_left form 1 0 new after) result
+lemma_begun form lim t old mid new before between after result first given = at result given
+  where
+    at : (result : Result DsrLine InFault) → GivesLemmaLine lim t (tokens_left form 1 (open_after 1 1 t.word) mid between) (tokens_left form 1 0 new after) result
+        → GivesLemmaBehind lim (tokens_left form 1 1 old before) (tokens_left form 1 0 new after) result
+    at (Ok l) given = λ all h.
+        let f = front_next (tokens_left form 1 1 old before) (tokens_left form 1 (open_after 1 1 t.word) mid between) t first all h in
+        let s = given f.0 f.1 in
+        (s.0, s.1, ap with_lemma (f.2 limit.Vars lim.vars []) ∙ s.2)
+    at (Err e) given = λ all h.
+        let f = front_next (tokens_left form 1 1 old before) (tokens_left form 1 (open_after 1 1 t.word) mid between) t first all h in
+        stops_same e (with_lemma (numbers_after limit.Vars lim.vars [] all)) (with_lemma (numbers_after limit.Vars lim.vars [] (next t f.0))) (ap with_lemma (f.2 limit.Vars lim.vars [])) (given f.0 f.1)

@@ -31,7 +31,10 @@ GivesOf read old new (Err e) = WhereToldBefore old (λ all. StopsLine e (read al
 abbrev pub GivesLemmaLine : LimitValues → Token → Option Texts → Option Texts → Result DsrLine InFault → Type 0
 GivesLemmaLine lim t old new result = GivesOf (λ all. with_lemma (numbers_after limit.Vars lim.vars [] (next t all))) old new result
 
--- a deletion, behind what tells it
+-- a lemma or a deletion, behind what tells it
+abbrev pub GivesLemmaBehind : LimitValues → Option Texts → Option Texts → Result DsrLine InFault → Type 0
+GivesLemmaBehind lim old new result = GivesOf (λ all. with_lemma (numbers_after limit.Vars lim.vars [] all)) old new result
+
 abbrev pub GivesDeletion : LimitValues → Option Texts → Option Texts → Result DsrLine InFault → Type 0
 GivesDeletion lim old new result = GivesOf (λ all. with_deletion (numbers_after limit.Vars lim.vars [] all)) old new result
 

@@ -7,7 +7,7 @@ ghost use Rattle.sr_model.specs.Dsr.{LineHasPivot};
 ghost use Rattle.sr_lemma.specs.Left.{tokens_left};
 ghost use Rattle.sr_lemma.specs.Reads.{HasInCause};
 ghost use Rattle.sr_lemma.specs.Lines.{line_of};
-ghost use Rattle.sr_dsr.specs.Gives.{GivesLemmaLine, GivesDeletion, GivesLineBehind, GivesLine, TakesSome};
+ghost use Rattle.sr_dsr.specs.Gives.{GivesLemmaLine, GivesLemmaBehind, GivesDeletion, GivesLineBehind, GivesLine, TakesSome};
 
 use sr_base::{Clause, Form, Limits, TextKind};
 use sr_desk::{ByteReader, Desk};
@@ -92,6 +92,54 @@ fn text_line<D: Desk>(
             Err(fault) => Err(fault),
         },
         Word::Del => match read_deletion(alloc, Form::Text, reader, desk, limits) {
+            Ok(line) => Ok(Some(line)),
+            Err(fault) => Err(fault),
+        },
+        _ => Err(misplaced(token)),
+    }
+}
+
+/// The lemma behind the byte that tells it.
+fn read_binary_lemma<D: Desk>(
+    alloc: Global,
+    reader: &mut ByteReader,
+    desk: &mut D,
+    limits: &Limits,
+) -> Result<DsrLine, InFault>
+    requires { IsTrue ((D.outside desk.old).slot reader.old.slot).reads }
+    ensures line { GivesLemmaBehind limits.now (tokens_left Form.Binary 1 1 reader.old (D.outside desk.old)) (tokens_left Form.Binary 1 0 reader.new (D.outside desk.new)) result }
+    ensures pivot { IfOk result (λ l. LineHasPivot (line_of l)) }
+    ensures same { IsSameReader reader.old reader.new }
+    ensures only { OnlyReads reader.old.slot (D.outside desk.old) (D.outside desk.new) }
+    ensures cause { HasInCause reader.old.slot (D.outside desk.old) (D.outside desk.new) result }
+{
+    let first = next_token(Form::Binary, false, reader, desk)?;
+    read_lemma(alloc, Form::Binary, first, reader, desk, limits)
+}
+
+/// The line of a binary file that a token begins.
+fn binary_line<D: Desk>(
+    alloc: Global,
+    token: Token,
+    reader: &mut ByteReader,
+    desk: &mut D,
+    limits: &Limits,
+) -> Result<Option<DsrLine>, InFault>
+    requires { IsTrue ((D.outside desk.old).slot reader.old.slot).reads }
+    ensures line { GivesLineBehind Form.Binary limits.now token (tokens_left Form.Binary 1 (open_after 1 0 token.word) reader.old (D.outside desk.old)) (tokens_left Form.Binary 1 0 reader.new (D.outside desk.new)) result }
+    ensures end { IfOk result (λ o. IsNone o → token.word ≡ Word.End) }
+    ensures pivot { IfOk result (λ o. IfSome o (λ l. LineHasPivot (line_of l))) }
+    ensures same { IsSameReader reader.old reader.new }
+    ensures only { OnlyReads reader.old.slot (D.outside desk.old) (D.outside desk.new) }
+    ensures cause { HasInCause reader.old.slot (D.outside desk.old) (D.outside desk.new) result }
+{
+    match token.word {
+        Word::End => Ok(None),
+        Word::Add => match read_binary_lemma(alloc, reader, desk, limits) {
+            Ok(line) => Ok(Some(line)),
+            Err(fault) => Err(fault),
+        },
+        Word::Del => match read_deletion(alloc, Form::Binary, reader, desk, limits) {
             Ok(line) => Ok(Some(line)),
             Err(fault) => Err(fault),
         },
