@@ -1,5 +1,5 @@
 -- The line that a token begins.
-use Rattle.std.proofs.Common.{◌≡◌, ◌∙◌, ℕ, ℤ, sym, ap, subst, refl, [], Option, Some, None, Ok, Err}
+use Rattle.std.proofs.Common.{◌≡◌, ◌∙◌, ℕ, ℤ, sym, ap, subst, refl, [], Option, Some, Ok, Err}
 use Rattle.std.specs.Prelude.{Result}
 use Rattle.sr_base.specs.Limits.{LimitValues}
 use Rattle.sr_base.specs.declared.names.Form.TheVariants.{Binary}
@@ -11,7 +11,7 @@ use Rattle.sr_model.specs.Binary.{open_after}
 use Rattle.sr_model.specs.declared.tokens.Token.{Token}
 use Rattle.sr_model.specs.declared.tokens.Word.{Word}
 use Rattle.sr_model.specs.declared.tokens.Word.TheVariants as word
-use Rattle.sr_model.specs.Texts.{Texts, finished, next}
+use Rattle.sr_model.specs.Texts.{Texts, next}
 use Rattle.sr_model.specs.Lsr.{numbers_after}
 use Rattle.sr_model.specs.Dsr.{LineRead, none, misspells, with_lemma, with_deletion, line_at, binary_line_at}
 use Rattle.sr_wit.specs.declared.fault.InFault.{InFault}

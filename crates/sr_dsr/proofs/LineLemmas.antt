@@ -1,5 +1,5 @@
 -- Lines, of the literals that were read.
-use Rattle.std.proofs.Common.{◌≡◌, ◌∙◌, ℕ, suc, ◌<◌, refl, sym, ap, subst, List, [], map, Option, Some, None, Ok, Err, arith}
+use Rattle.std.proofs.Common.{◌≡◌, ◌∙◌, ℕ, sym, ap, subst, List, [], map, Option, Some, Ok, Err}
 use Rattle.std.specs.Prelude.{Result}
 use Rattle.sr_base.specs.Literal.{Literal, number, literal_of, distinct}
 use Rattle.sr_base.specs.Limits.{LimitValues}
@@ -12,7 +12,7 @@ use Rattle.sr_model.specs.declared.tokens.Token.{Token}
 use Rattle.sr_model.specs.Texts.{Texts, next}
 use Rattle.sr_model.specs.Binary.{open_after}
 use Rattle.sr_model.specs.Witnesses.{fault_of_literals}
-use Rattle.sr_model.specs.Lsr.{NumbersRead, numbers, bad, above, numbers_after}
+use Rattle.sr_model.specs.Lsr.{NumbersRead, numbers, numbers_after}
 use Rattle.sr_model.specs.Dsr as model
 use Rattle.sr_model.specs.Dsr.{LineRead, line, lemma_line, deletion_line, lemma_of, judged_lemma, with_lemma, with_deletion}
 use Rattle.sr_wit.specs.declared.fault.InFault.{InFault}
@@ -21,8 +21,8 @@ use Rattle.sr_lemma.specs.declared.lemma.Lemma.{Lemma}
 use Rattle.sr_lemma.specs.declared.lemma.DsrLine.{DsrLine}
 use Rattle.sr_lemma.specs.declared.lemma.DsrLine.TheVariants.{Add, Del}
 use Rattle.sr_lemma.specs.Left.{tokens_left}
-use Rattle.sr_lemma.specs.Lines.{lemma_told, line_of, GivesLemma}
-use Rattle.sr_lemma.specs.Reads.{WhereTold, StopsNumbers, GivesFront, GivesLiterals}
+use Rattle.sr_lemma.specs.Lines.{GivesLemma}
+use Rattle.sr_lemma.specs.Reads.{StopsNumbers, GivesFront, GivesLiterals}
 use Rattle.sr_lemma.proofs.NumberLemmas.{front_next, front_stop}
 use Rattle.sr_dsr.specs.Gives.{StopsLine, GivesLemmaLine, GivesLemmaBehind, GivesDeletion}
 

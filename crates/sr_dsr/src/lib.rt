@@ -3,5 +3,8 @@
 #![tactic(auto)]
 
 mod lines;
+mod write;
 
+pub use lines::next_line;
 pub use sr_lemma::{DsrLine, Lemma};
+pub use write::line_bytes;

@@ -1,5 +1,5 @@
 // Reading lines.
-ghost use Rattle.std.specs.Prelude.{◌≡◌, true, IsTrue, IsNone, IfOk, IfSome, OnSome};
+ghost use Rattle.std.specs.Prelude.{◌≡◌, ◌≢◌, true, IsTrue, IfOk, IfSome, OnSome};
 ghost use Rattle.sr_desk.specs.Outside.{OnlyReads};
 ghost use Rattle.sr_desk.specs.Next.{IsSameReader};
 ghost use Rattle.sr_model.specs.Binary.{open_after};
@@ -79,7 +79,7 @@ fn text_line<D: Desk>(
 ) -> Result<Option<DsrLine>, InFault>
     requires { IsTrue ((D.outside desk.old).slot reader.old.slot).reads }
     ensures line { GivesLineBehind Form.Text limits.now token (tokens_left Form.Text 1 (open_after 1 0 token.word) reader.old (D.outside desk.old)) (tokens_left Form.Text 1 0 reader.new (D.outside desk.new)) result }
-    ensures end { IfOk result (λ o. IsNone o → token.word ≡ Word.End) }
+    ensures some { IfOk result (λ o. OnSome o (token.word ≢ Word.End)) }
     ensures pivot { IfOk result (λ o. IfSome o (λ l. LineHasPivot (line_of l))) }
     ensures same { IsSameReader reader.old reader.new }
     ensures only { OnlyReads reader.old.slot (D.outside desk.old) (D.outside desk.new) }
@@ -127,7 +127,7 @@ fn binary_line<D: Desk>(
 ) -> Result<Option<DsrLine>, InFault>
     requires { IsTrue ((D.outside desk.old).slot reader.old.slot).reads }
     ensures line { GivesLineBehind Form.Binary limits.now token (tokens_left Form.Binary 1 (open_after 1 0 token.word) reader.old (D.outside desk.old)) (tokens_left Form.Binary 1 0 reader.new (D.outside desk.new)) result }
-    ensures end { IfOk result (λ o. IsNone o → token.word ≡ Word.End) }
+    ensures some { IfOk result (λ o. OnSome o (token.word ≢ Word.End)) }
     ensures pivot { IfOk result (λ o. IfSome o (λ l. LineHasPivot (line_of l))) }
     ensures same { IsSameReader reader.old reader.new }
     ensures only { OnlyReads reader.old.slot (D.outside desk.old) (D.outside desk.new) }
@@ -144,5 +144,36 @@ fn binary_line<D: Desk>(
             Err(fault) => Err(fault),
         },
         _ => Err(misplaced(token)),
+    }
+}
+
+/// The next line of a proof by lemmas; none where only white space and comments are left (text) or nothing
+/// (binary). A lemma's witness has the first literal of its clause as its pivot.
+///
+/// # Errors
+///
+/// `Text` and `Limit` come exactly where the tokens that are left begin with no line, with the first fault in
+/// the order of the bytes. A fault of a whole lemma, an odd map or a variable with two images, is found at its
+/// `0`, and has that place. The limits are those of variables and of bytes. `Source` comes only where a read
+/// failed. After an error the reader isn't used again.
+pub fn next_line<D: Desk>(
+    alloc: Global,
+    form: Form,
+    reader: &mut ByteReader,
+    desk: &mut D,
+    limits: &Limits,
+) -> Result<Option<DsrLine>, InFault>
+    requires { IsTrue ((D.outside desk.old).slot reader.old.slot).reads }
+    ensures line { GivesLine form limits.now (tokens_left form 1 0 reader.old (D.outside desk.old)) (tokens_left form 1 0 reader.new (D.outside desk.new)) result }
+    ensures takes { IfOk result (λ o. OnSome o (TakesSome reader.old reader.new)) }
+    ensures pivot { IfOk result (λ o. IfSome o (λ l. LineHasPivot (line_of l))) }
+    ensures same { IsSameReader reader.old reader.new }
+    ensures only { OnlyReads reader.old.slot (D.outside desk.old) (D.outside desk.new) }
+    ensures cause { HasInCause reader.old.slot (D.outside desk.old) (D.outside desk.new) result }
+{
+    let token = next_token(form, true, reader, desk)?;
+    match form {
+        Form::Text => text_line(alloc, token, reader, desk, limits),
+        Form::Binary => binary_line(alloc, token, reader, desk, limits),
     }
 }

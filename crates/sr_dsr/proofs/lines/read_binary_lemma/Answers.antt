@@ -1,4 +1,4 @@
-use Rattle.std.proofs.Common.{◌<◌, arith}
+use Rattle.std.proofs.Common.{arith}
 use Rattle.std.proofs.lemmas.Result.{err_from_is_err_and}
 use Rattle.sr_base.specs.declared.names.Form.TheVariants.{Binary}
 use Rattle.sr_lemma.specs.Left.{tokens_left}

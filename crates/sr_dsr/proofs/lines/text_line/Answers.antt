@@ -1,7 +1,7 @@
-use Rattle.std.proofs.Common.{◌≡◌, [], Some}
+use Rattle.std.proofs.Common.{[]}
 use Rattle.sr_base.specs.declared.names.Form.TheVariants.{Text}
 use Rattle.sr_base.specs.declared.names.LimitKind.TheVariants as limit
-use Rattle.sr_model.specs.Texts.{Texts, next}
+use Rattle.sr_model.specs.Texts.{next}
 use Rattle.sr_model.specs.Lsr.{numbers_after}
 use Rattle.sr_model.specs.Dsr.{with_lemma, with_deletion, line_in}
 use Rattle.sr_lemma.specs.Laws.{front_word}
