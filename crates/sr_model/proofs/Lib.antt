@@ -9,3 +9,14 @@ pub mod Saturation
 pub mod Examples
 pub mod Lives
 pub mod Pivots
+pub mod FormatExamples
+pub mod TextTokens
+pub mod BinaryTokens
+pub mod NumberTexts
+pub mod NumberStreams
+pub mod PartsWritten
+pub mod ItemsAgain
+pub mod LinesAgain
+pub mod FormulasAgain
+pub mod FilesAgain
+pub mod ReadPivots

@@ -13,3 +13,8 @@ pub mod Tokens
 pub mod Dimacs
 pub mod Witnesses
 pub mod Lsr
+pub mod Binary
+pub mod LsrBinary
+pub mod Dsr
+pub mod Writing
+pub mod ReadAgain

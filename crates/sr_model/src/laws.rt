@@ -1,5 +1,8 @@
 // The laws of the definitions, each as the contract of a function with no body.
 ghost use Rattle.sr_model.specs.Laws.{RefutationIsSound, ClosedChainRefutes, UnclosedChainKeeps, RupHolds, RedundancyKeeps, RedundancyIsSound, MetIsSound, EmptyIsSound, VerifiedIsUnsat, StrictIsVerified, TakingJudges, TakingKeepsLive, RejectionKeepsLive, VerificationKeepsLive};
+ghost use Rattle.sr_model.specs.LsrBinary.{ReadItemsHavePivots};
+ghost use Rattle.sr_model.specs.Dsr.{ReadLinesHavePivots};
+ghost use Rattle.sr_model.specs.ReadAgain.{NumbersReadAgain, NumbersAreShortest, FormulasReadAgain, SelectionsReadAgain, ItemsReadAgain, BinaryItemsReadAgain, LinesReadAgain, BinaryLinesReadAgain, ItemFilesReadAgain, LineFilesReadAgain};
 
 /// What is refuted is false: no assignment satisfies the clauses and makes all the literals true.
 pub fn refutation_is_sound()
@@ -74,4 +77,66 @@ pub fn rejection_keeps_live()
 /// Where the empty clause verifies the proof, they end with the clauses that were live before it.
 pub fn verification_keeps_live()
     ensures { VerificationKeepsLive }
+{}
+
+/// A witness that is read with a step, in text or in binary, has the first literal of the clause as its pivot.
+pub fn read_items_have_pivots()
+    ensures { ReadItemsHavePivots }
+{}
+
+/// So has one that is read with a lemma.
+pub fn read_lines_have_pivots()
+    ensures { ReadLinesHavePivots }
+{}
+
+/// A number of 63 bits and a sign is read again from its decimal digits, and from its bytes in binary.
+pub fn numbers_read_again()
+    ensures { NumbersReadAgain }
+{}
+
+/// In binary no other bytes that say the number are fewer.
+pub fn numbers_are_shortest()
+    ensures { NumbersAreShortest }
+{}
+
+/// A formula within the limits is read again from its text.
+pub fn formulas_read_again()
+    ensures { FormulasReadAgain }
+{}
+
+/// So is a formula of some of its clauses, by their numbers.
+pub fn selections_read_again()
+    ensures { SelectionsReadAgain }
+{}
+
+/// An item of a proof by hints is read again from its text, whatever follows, and none of it passes a
+/// limit: its literals and numbers are within the limits, each number but that of a deletion is at least 1,
+/// there is room for its bytes, and its witness repeats no part.
+pub fn items_read_again()
+    ensures { ItemsReadAgain }
+{}
+
+/// The same in binary, where a deletion comes back with the number 0.
+pub fn binary_items_read_again()
+    ensures { BinaryItemsReadAgain }
+{}
+
+/// A lemma or a deletion of a proof by lemmas is read again from its text, whatever follows.
+pub fn lines_read_again()
+    ensures { LinesReadAgain }
+{}
+
+/// The same in binary.
+pub fn binary_lines_read_again()
+    ensures { BinaryLinesReadAgain }
+{}
+
+/// A file that begins with written items spells these first, and where it ends there, no others.
+pub fn item_files_read_again()
+    ensures { ItemFilesReadAgain }
+{}
+
+/// A file that begins with written lines spells these first, and where it ends there, no others.
+pub fn line_files_read_again()
+    ensures { LineFilesReadAgain }
 {}

@@ -1,0 +1,4 @@
+pub mod LineLemmas
+pub mod BeginLemmas
+pub mod NextLemmas
+pub mod WriteLemmas

@@ -1,0 +1,10 @@
+//! Proofs by lemmas: DRAT's lemmas and deletions, and lemmas with witnesses (Buss and Thapen 2019; Codel,
+//! Avigad and Heule 2024), read and written in text and in binary.
+#![tactic(auto)]
+
+mod lines;
+mod write;
+
+pub use lines::next_line;
+pub use sr_lemma::{DsrLine, Lemma};
+pub use write::line_bytes;

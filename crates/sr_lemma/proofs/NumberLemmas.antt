@@ -1,0 +1,188 @@
+-- What a token does to the numbers that are read.
+use Rattle.std.proofs.Common.{◌≡◌, ◌∙◌, ℕ, ℤ, pos, negsuc, zero, suc, ◌<◌, ◌≤◌, refl, sym, ap, subst, map, List, [], ◌∷◌, ◌++◌, true, false, Option, Some, Ok, Err, arith}
+use Rattle.std.specs.Prelude.{nat_abs, nat_le}
+use Rattle.std.proofs.lemmas.Bool.Decides.{nat_tests}
+use Rattle.std.proofs.lemmas.List.{map_push}
+use Rattle.sr_base.specs.Literal.{Literal, number, literal_of}
+use Rattle.sr_base.specs.declared.names.Form.{Form}
+use Rattle.sr_base.specs.declared.names.LimitKind.{LimitKind}
+use Rattle.sr_base.specs.declared.names.LimitKind.TheVariants as limit
+use Rattle.sr_desk.specs.Outside.{Outside}
+use Rattle.sr_desk.specs.Reader.{Reader}
+use Rattle.sr_desk.specs.Next.{IsSameReader}
+use Rattle.sr_model.specs.declared.tokens.Token.{Token}
+use Rattle.sr_model.specs.declared.tokens.Word.{Word}
+use Rattle.sr_model.specs.declared.tokens.Word.TheVariants as word
+use Rattle.sr_model.specs.Texts.{Texts, finished, next}
+use Rattle.sr_model.specs.Binary.{open_after}
+use Rattle.sr_model.specs.Lsr.{NumbersRead, bad, above, by_number, by_word, numbers_after}
+use Rattle.sr_scan.specs.Left.{StandsFirst}
+use Rattle.sr_wit.specs.declared.fault.InFault.{InFault}
+use Rattle.sr_wit.specs.declared.fault.InFault.TheVariants.{Text, Limit, Source, NoMemory}
+use Rattle.sr_lemma.specs.Left.{tokens_left}
+use Rattle.sr_lemma.specs.Reads.{misplaced, WhereTold, StopsNumbers, GivesFront, GivesLiterals}
+
+-- the numbers by the next token
+front_numbers : (old new : Option Texts) (place : ℕ) (w : Word) → StandsFirst old new place w
+    → (all : Texts) → old ≡ Some all
+    → (rest : Texts) × (new ≡ Some rest) × ((kind : LimitKind) (bound : ℕ) (these : List ℤ)
+    → numbers_after kind bound these all ≡ by_word kind bound w place these rest (λ x. numbers_after kind bound (these ++ x ∷ []) rest))
+unfolding numbers_after
+front_numbers old new place word.End first all h = let f = first all h in (finished place, f.1, λ kind bound these. ap (numbers_after kind bound these) f.0)
+front_numbers old new place (word.Number x) first all h = let f = first all h in (f.0, f.2, λ kind bound these. ap (numbers_after kind bound these) f.1)
+front_numbers old new place word.Add first all h = let f = first all h in (f.0, f.2, λ kind bound these. ap (numbers_after kind bound these) f.1)
+front_numbers old new place word.Del first all h = let f = first all h in (f.0, f.2, λ kind bound these. ap (numbers_after kind bound these) f.1)
+front_numbers old new place word.Header first all h = let f = first all h in (f.0, f.2, λ kind bound these. ap (numbers_after kind bound these) f.1)
+front_numbers old new place word.Cnf first all h = let f = first all h in (f.0, f.2, λ kind bound these. ap (numbers_after kind bound these) f.1)
+front_numbers old new place word.Percent first all h = let f = first all h in (f.0, f.2, λ kind bound these. ap (numbers_after kind bound these) f.1)
+front_numbers old new place word.Other first all h = let f = first all h in (f.0, f.2, λ kind bound these. ap (numbers_after kind bound these) f.1)
+
+-- a word that is no number
+by_word_default : (kind : LimitKind) (bound : ℕ) (w : Word) (place : ℕ) (these : List ℤ) (rest : Texts) (more : ℤ → NumbersRead)
+    → ((x : ℤ) → w ≡ word.Number x → ⊥) → by_word kind bound w place these rest more ≡ bad (misplaced w) place
+by_word_default kind bound (word.Number x) place these rest more n = absurd (n x refl)
+by_word_default kind bound word.End place these rest more n = refl
+by_word_default kind bound word.Add place these rest more n = refl
+by_word_default kind bound word.Del place these rest more n = refl
+by_word_default kind bound word.Header place these rest more n = refl
+by_word_default kind bound word.Cnf place these rest more n = refl
+by_word_default kind bound word.Percent place these rest more n = refl
+by_word_default kind bound word.Other place these rest more n = refl
+
+by_number_more : (kind : LimitKind) (bound : ℕ) (x : ℤ) (place : ℕ) (these : List ℤ) (rest : Texts) (more : NumbersRead) → (x ≡ pos 0 → ⊥) → nat_abs x ≤ bound
+    → by_number kind bound x place these rest more ≡ more
+by_number_more kind bound (pos zero) place these rest more ne le = absurd (ne refl)
+by_number_more kind bound (pos (suc n)) place these rest more ne le = let t : nat_le (suc n) bound ≡ true = grind (arith, nat_tests) in rw t refl
+by_number_more kind bound (negsuc n) place these rest more ne le = let t : nat_le (suc n) bound ≡ true = grind (arith, nat_tests) in rw t refl
+
+by_number_above : (kind : LimitKind) (bound : ℕ) (x : ℤ) (place : ℕ) (these : List ℤ) (rest : Texts) (more : NumbersRead) → (x ≡ pos 0 → ⊥) → bound < nat_abs x
+    → by_number kind bound x place these rest more ≡ above kind
+by_number_above kind bound (pos zero) place these rest more ne le = absurd (ne refl)
+by_number_above kind bound (pos (suc n)) place these rest more ne le = let t : nat_le (suc n) bound ≡ false = grind (arith, nat_tests) in rw t refl
+by_number_above kind bound (negsuc n) place these rest more ne le = let t : nat_le (suc n) bound ≡ false = grind (arith, nat_tests) in rw t refl
+
+-- whether a token is at hand: not at the end
+abbrev pub token_left : Word → ℕ
+token_left word.End = 0
+token_left w = 1
+
+-- the numbers behind a token
+at_word : (kind : LimitKind) (bound : ℕ) (these : List ℤ) (t : Token) (rest : Texts)
+    → numbers_after kind bound these (next t rest) ≡ by_word kind bound t.word t.place these rest (λ x. numbers_after kind bound (these ++ x ∷ []) rest)
+unfolding numbers_after
+at_word kind bound these t rest = refl
+
+at_number : (kind : LimitKind) (bound : ℕ) (these : List ℤ) (t : Token) (x : ℤ) (rest : Texts) → t.word ≡ word.Number x
+    → numbers_after kind bound these (next t rest) ≡ by_number kind bound x t.place these rest (numbers_after kind bound (these ++ x ∷ []) rest)
+at_number kind bound these t x rest e =
+    at_word kind bound these t rest ∙ ap (λ w. by_word kind bound w t.place these rest (λ x. numbers_after kind bound (these ++ x ∷ []) rest)) e
+
+at_default : (kind : LimitKind) (bound : ℕ) (these : List ℤ) (t : Token) (rest : Texts) → ((x : ℤ) → t.word ≡ word.Number x → ⊥)
+    → numbers_after kind bound these (next t rest) ≡ bad (misplaced t.word) t.place
+at_default kind bound these t rest n =
+    at_word kind bound these t rest ∙ by_word_default kind bound t.word t.place these rest (λ x. numbers_after kind bound (these ++ x ∷ []) rest) n
+
+-- the next token, at hand
+pub front_next : (old new : Option Texts) (t : Token) → StandsFirst old new t.place t.word → (all : Texts) → old ≡ Some all
+    → (rest : Texts) × (new ≡ Some rest) × ((kind : LimitKind) (bound : ℕ) (these : List ℤ) → numbers_after kind bound these all ≡ numbers_after kind bound these (next t rest))
+unfolding numbers_after
+front_next old new t first all h = front_numbers old new t.place t.word first all h
+
+-- where there is no token, the numbers stop
+pub front_stop : (form : Form) (lists o : ℕ) (old new : Reader) (before after : Outside) (e : InFault) → GivesFront form lists o old new before after (Err e)
+    → (kind : LimitKind) (bound : ℕ) (these : List ℤ) (all : Texts) → tokens_left form lists o old before ≡ Some all → StopsNumbers e (numbers_after kind bound these all)
+unfolding numbers_after
+front_stop form lists o old new before after (Text fault place) given kind bound these all h = ap (numbers_after kind bound these) (given all h)
+front_stop form lists o old new before after (Limit limit.Bytes) given kind bound these all h = ap (numbers_after kind bound these) (given all h)
+front_stop form lists o old new before after (Limit limit.Vars) given kind bound these all h = absurd given
+front_stop form lists o old new before after (Limit limit.Ids) given kind bound these all h = absurd given
+front_stop form lists o old new before after (Limit limit.Cells) given kind bound these all h = absurd given
+front_stop form lists o old new before after Source given kind bound these all h = tt
+front_stop form lists o old new before after NoMemory given kind bound these all h = absurd given
+
+-- a number other than 0 leaves the lists open
+open_number : (lists o : ℕ) (w : Word) (x : ℤ) → w ≡ word.Number x → (x ≡ pos 0 → ⊥) → open_after lists (suc o) w ≡ suc o
+open_number lists o w x e ne = ap (open_after lists (suc o)) e ∙ at x ne
+  where
+    at : (x : ℤ) → (x ≡ pos 0 → ⊥) → open_after lists (suc o) (word.Number x) ≡ suc o
+    at (pos zero) ne = absurd (ne refl)
+    at (pos (suc n)) ne = refl
+    at (negsuc n) ne = refl
+
+open_zero : (lists o : ℕ) (w : Word) (x : ℤ) → w ≡ word.Number x → x ≡ pos 0 → open_after lists (suc o) w ≡ o
+open_zero lists o w x e z = ap (open_after lists (suc o)) (e ∙ ap word.Number z) ∙ omega arith
+
+-- what was read, the token at hand and what is left spell what stood at the front
+abbrev pub Holds : Form → ℕ → Token → Reader → Reader → Outside → Outside → List Literal → Token → Type 0
+Holds form bound first old new before after lits t = (lists o : ℕ)
+    → WhereTold (tokens_left form lists (open_after lists (suc o) first.word) old before) (tokens_left form lists (open_after lists (suc o) t.word) new after)
+    (λ all rest. numbers_after limit.Vars bound [] (next first all) ≡ numbers_after limit.Vars bound (map number lits) (next t rest))
+
+pub holds_first : (form : Form) (bound : ℕ) (first : Token) (old : Reader) (before : Outside) (lits : List Literal) → lits ≡ [] → Holds form bound first old old before before lits first
+holds_first form bound first old before lits e lists o all h = (all, h, ap (λ ls. numbers_after limit.Vars bound (map number ls) (next first all)) (sym e))
+
+-- the end of the literals
+pub literals_end : (form : Form) (bound : ℕ) (first : Token) (old new : Reader) (before after : Outside) (lits : List Literal) (t : Token) (x : ℤ) → Holds form bound first old new before after lits t
+    → t.word ≡ word.Number x → x ≡ pos 0 → (lists o : ℕ) → GivesLiterals form lists o bound first old new before after (Ok (lits, t.place))
+literals_end form bound first old new before after lits t x inv e z lists o all h =
+    let s = inv lists o all h in (
+      s.0,
+      ap (λ (k : ℕ). tokens_left form lists k new after) (sym (open_zero lists o t.word x e z)) ∙ s.1,
+      s.2 ∙ at_number limit.Vars bound (map number lits) t x s.0 e
+          ∙ ap (λ y. by_number limit.Vars bound y t.place (map number lits) s.0 (numbers_after limit.Vars bound (map number lits ++ y ∷ []) s.0)) z,
+    )
+
+-- a token that is no number, and a variable above the bound
+pub literals_misplaced : (form : Form) (bound : ℕ) (first : Token) (old new new' : Reader) (before after after' : Outside) (lits : List Literal) (t : Token) → Holds form bound first old new before after lits t
+    → ((x : ℤ) → t.word ≡ word.Number x → ⊥) → (lists o : ℕ) → GivesLiterals form lists o bound first old new' before after' (Err (Text (misplaced t.word) t.place))
+literals_misplaced form bound first old new new' before after after' lits t inv n lists o all h =
+    let s = inv lists o all h in s.2 ∙ at_default limit.Vars bound (map number lits) t s.0 n
+
+pub literals_above : (form : Form) (bound : ℕ) (first : Token) (old new new' : Reader) (before after after' : Outside) (lits : List Literal) (t : Token) (x : ℤ) → Holds form bound first old new before after lits t
+    → t.word ≡ word.Number x → (x ≡ pos 0 → ⊥) → bound < nat_abs x → (lists o : ℕ) → GivesLiterals form lists o bound first old new' before after' (Err (Limit limit.Vars))
+literals_above form bound first old new new' before after after' lits t x inv e ne past lists o all h =
+    let s = inv lists o all h in
+    s.2 ∙ at_number limit.Vars bound (map number lits) t x s.0 e ∙ by_number_above limit.Vars bound x t.place (map number lits) s.0 _ ne past
+
+-- one literal more
+literal_more : (bound : ℕ) (lits lits' : List Literal) (t : Token) (x : ℤ) (l : Literal) (rest : Texts) → t.word ≡ word.Number x → (x ≡ pos 0 → ⊥) → nat_abs x ≤ bound
+    → number l ≡ x → lits' ≡ lits ++ l ∷ []
+    → numbers_after limit.Vars bound (map number lits) (next t rest) ≡ numbers_after limit.Vars bound (map number lits') rest
+literal_more bound lits lits' t x l rest e ne le n p =
+    at_number limit.Vars bound (map number lits) t x rest e
+    ∙ by_number_more limit.Vars bound x t.place (map number lits) rest (numbers_after limit.Vars bound (map number lits ++ x ∷ []) rest) ne le
+    ∙ ap (λ these. numbers_after limit.Vars bound these rest) (ap (λ y. map number lits ++ y ∷ []) (sym n) ∙ sym (map_push number lits l) ∙ ap (map number) (sym p))
+
+-- the literals go on, and the next token is at hand, or there is none
+pub record TakesLiteral (bound : ℕ) (lits lits' : List Literal) (t : Token) : Type 0 where
+  pub value : ℤ
+  pub literal : Literal
+  pub word_is : t.word ≡ word.Number value
+  pub some : value ≡ pos 0 → ⊥
+  pub within : nat_abs value ≤ bound
+  pub named : number literal ≡ value
+  pub pushed : lits' ≡ lits ++ literal ∷ []
+
+pub holds_more : (form : Form) (bound : ℕ) (first : Token) (old mid new : Reader) (before between after : Outside) (lits lits' : List Literal) (t t' : Token) → Holds form bound first old mid before between lits t
+    → TakesLiteral bound lits lits' t → ((lists o : ℕ) → 0 < o → GivesFront form lists o mid new between after (Ok t')) → Holds form bound first old new before after lits' t'
+holds_more form bound first old mid new before between after lits lits' t t' inv k given lists o all h =
+    let s = inv lists o all h in
+    let stays : tokens_left form lists (suc o) mid between ≡ Some s.0 = ap (λ (n : ℕ). tokens_left form lists n mid between) (sym (open_number lists o t.word k.value k.word_is k.some)) ∙ s.1 in
+    let f = front_next (tokens_left form lists (suc o) mid between) (tokens_left form lists (open_after lists (suc o) t'.word) new after) t' (given lists (suc o) (omega arith)) s.0 stays in
+    (f.0, f.1, s.2 ∙ literal_more bound lits lits' t k.value k.literal s.0 k.word_is k.some k.within k.named k.pushed ∙ f.2 limit.Vars bound (map number lits'))
+
+pub literals_stop : (form : Form) (bound : ℕ) (first : Token) (old mid new : Reader) (before between after : Outside) (lits lits' : List Literal) (t : Token) (e : InFault) → Holds form bound first old mid before between lits t
+    → TakesLiteral bound lits lits' t → ((lists o : ℕ) → 0 < o → GivesFront form lists o mid new between after (Err e)) → (lists o : ℕ) → GivesLiterals form lists o bound first old new before after (Err e)
+literals_stop form bound first old mid new before between after lits lits' t e inv k given lists o all h =
+    let s = inv lists o all h in
+    let stays : tokens_left form lists (suc o) mid between ≡ Some s.0 = ap (λ (n : ℕ). tokens_left form lists n mid between) (sym (open_number lists o t.word k.value k.word_is k.some)) ∙ s.1 in
+    let more = literal_more bound lits lits' t k.value k.literal s.0 k.word_is k.some k.within k.named k.pushed in
+    subst (StopsNumbers e) (sym (s.2 ∙ more)) (front_stop form lists (suc o) mid new between after e (given lists (suc o) (omega arith)) limit.Vars bound (map number lits') s.0 stays)
+
+pub named_more : (lits lits' : List Literal) (x : ℤ) (l : Literal) → map literal_of (map number lits) ≡ lits → l ≡ literal_of x → number l ≡ x → lits' ≡ lits ++ l ∷ []
+    → map literal_of (map number lits') ≡ lits'
+named_more lits lits' x l named e n p =
+    rw (p, map_push number lits l, map_push literal_of (map number lits) (number l), named, n, ← e) refl
+
+pub IsSameReader-trans : {a b c : Reader} → IsSameReader a b → IsSameReader b c → IsSameReader a c
+IsSameReader-trans x y = record { slot = y.slot ∙ x.slot; limit = y.limit ∙ x.limit; later = omega (arith, x.later, y.later) }

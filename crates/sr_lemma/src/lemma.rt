@@ -1,0 +1,44 @@
+// Lemmas, and lines of a proof by lemmas.
+ghost use Rattle.std.specs.Prelude.{IfOk};
+ghost use Rattle.sr_model.specs.Dsr.{LineHasPivot, lemma_line};
+ghost use Rattle.sr_lemma.specs.Lines.{lemma_told, GivesLemma};
+
+use crate::witnesses::{find_clause, find_witness};
+use sr_base::{Clause, Lit};
+use sr_wit::{InFault, Subst};
+use std::alloc::Global;
+
+/// A clause that a proof adds, and the witness that shows that it may, where one is written. A witness
+/// makes the first literal of the clause true.
+#[derive(Drop)]
+pub struct Lemma {
+    pub clause: Clause,
+    pub witness: Option<Subst>,
+}
+
+/// A line of a proof by lemmas: one that is added, or a clause that is deleted.
+#[derive(Drop)]
+pub enum DsrLine {
+    Add(Lemma),
+    Del(Clause),
+}
+
+impl Lemma {
+    /// The lemma of its literals as they are written: those of the clause, then from the second occurrence of
+    /// its first literal on those of the witness, and from the third on pairs of a literal and its image.
+    ///
+    /// # Errors
+    ///
+    /// `Text` with this place, that of the `0` that ends the literals: `OddMap` where a literal of the pairs
+    /// is left over, or else `Twice` where a variable gets two different images.
+    pub fn from_literals(alloc: Global, lits: &[Lit], end: u64) -> Result<Lemma, InFault>
+        ensures lemma { GivesLemma lits.now end result }
+        ensures pivot { IfOk result (λ l. LineHasPivot (lemma_line (lemma_told l))) }
+    {
+        let witness = find_witness(alloc, lits, end)?;
+        let Ok(clause) = find_clause(alloc, lits) else {
+            return Err(InFault::NoMemory);
+        };
+        Ok(Lemma { clause, witness })
+    }
+}
