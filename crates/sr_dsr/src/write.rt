@@ -56,7 +56,13 @@ pub fn line_bytes(alloc: Global, form: Form, line: &DsrLine) -> Result<ByteList,
 {
     match line {
         DsrLine::Add(lemma) => {
-            parts_bytes(alloc, form, false, lemma.clause.lits(), lemma.witness.as_ref())
+            parts_bytes(
+                alloc,
+                form,
+                false,
+                lemma.clause.lits(),
+                lemma.witness.as_ref(),
+            )
         }
         DsrLine::Del(clause) => parts_bytes(alloc, form, true, clause.lits(), None),
     }
