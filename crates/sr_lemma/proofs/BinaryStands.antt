@@ -1,5 +1,5 @@
 -- Reading a binary file token by token gives the tokens of the plain definition.
-use Rattle.std.proofs.Common.{◌≡◌, ◌∙◌, ℕ, zero, suc, ◌+◌, ◌-◌, ◌^◌, ◌/◌, ◌%◌, ◌<◌, ◌≤◌, ◌==◌, ◌&&◌, Bool, true, false, refl, sym, ap, subst, List, [], ◌∷◌, ◌++◌, length, take, Some, Ok, Err, ℤ, arith, length-append}
+use Rattle.std.proofs.Common.{◌≡◌, ◌≢◌, ◌∙◌, ℕ, zero, suc, ◌+◌, ◌-◌, ◌^◌, ◌/◌, ◌%◌, ◌<◌, ◌≤◌, ◌==◌, ◌&&◌, Bool, true, false, refl, sym, ap, subst, List, [], ◌∷◌, ◌++◌, length, take, Some, Ok, Err, ℤ, arith, length-append, pos, negsuc}
 use Rattle.std.specs.Prelude.{nat_lt, Result}
 use Rattle.std.specs.List.{list_any}
 use Rattle.std.proofs.lemmas.Bool.Decides.{nat_tests}
@@ -15,7 +15,7 @@ use Rattle.sr_model.specs.Binary.{is_last, low_bits, value_of, number_said, open
 use Rattle.sr_model.proofs.Soundness.{by_test}
 use Rattle.sr_model.proofs.BinaryTokens.{go_on, with_run, binary_first, binary_begins, binary_end, binary_over, binary_long, binary_cut, binary_short}
 use Rattle.sr_model.proofs.NumberTexts.{any_last}
-use Rattle.sr_scan.specs.Binary.{ValueRead, value, long, ends, limited, plus, value_at, value_word, reads, number_by, number_at, item_at, token_at}
+use Rattle.sr_scan.specs.Binary.{TokenRead, misspells, passes, ValueRead, value, long, ends, limited, plus, value_at, value_word, reads, number_by, number_at, item_at, token_at, lists_after, first_then, texts_by, binary_texts, binary_spelled}
 use Rattle.sr_lemma.specs.Left.{IsStart}
 use Rattle.sr_lemma.specs.Laws.{front_word, Stand}
 
@@ -164,6 +164,7 @@ number_stands lists o room place bs v rest e = subst (λ s. Stand lists (suc o) 
               ∙ ap (λ (k : ℕ). next (record { place = place; word = w }) (binary_from lists (open_after lists (suc o) w) (room - k) (place + k) rest)) far
               ∙ number_front place w _ x.0 x.1,
           λ end. absurd (number_no_end w x.0 x.1 end),
+          λ ne. omega (arith, size),
         )
 
 -- a number, whole or not
@@ -179,7 +180,7 @@ number_tells lists o room place b bs limited t =
 
 -- the end of the file
 end_stands : (lists o room place : ℕ) → Stand lists o room place [] (reads (record { place = place; word = word.End }) [])
-end_stands lists o room place = (omega arith, binary_end lists o room place, λ e. (refl, refl, refl))
+end_stands lists o room place = (omega arith, binary_end lists o room place, λ e. (refl, refl, refl), λ ne. absurd (ne refl))
 
 -- where an item begins
 item_stands : (lists room place : ℕ) (bytes : List ℕ) → Stand lists 0 room place bytes (item_at room place bytes)
@@ -196,12 +197,12 @@ item_stands lists (suc room) place (b ∷ bs) = by_test (b == 97) add (λ n. by_
     add : (b == 97) ≡ true → Stand lists 0 (suc room) place (b ∷ bs) (item_at (suc room) place (b ∷ bs))
     add t =
         let stream : binary_from lists 0 (suc room) place (b ∷ bs) ≡ next (record { place = place; word = word.Add }) (binary_from lists lists (suc room - 1) (place + 1) bs) = begins ∙ rw t refl in
-        rw (t, far) (omega arith, stream, λ e. absurd cc)
+        rw (t, far) (omega arith, stream, λ e. absurd cc, λ ne. omega arith)
 
     del : (b == 97) ≡ false → (b == 100) ≡ true → Stand lists 0 (suc room) place (b ∷ bs) (item_at (suc room) place (b ∷ bs))
     del n t =
         let stream : binary_from lists 0 (suc room) place (b ∷ bs) ≡ next (record { place = place; word = word.Del }) (binary_from lists 1 (suc room - 1) (place + 1) bs) = begins ∙ rw (n, t) refl in
-        rw (n, t, far) (omega arith, stream, λ e. absurd cc)
+        rw (n, t, far) (omega arith, stream, λ e. absurd cc, λ ne. omega arith)
 
     bad : (b == 97) ≡ false → (b == 100) ≡ false → Stand lists 0 (suc room) place (b ∷ bs) (item_at (suc room) place (b ∷ bs))
     bad n t =
@@ -216,3 +217,54 @@ pub tokens_stand : (at_start : Bool) (lists o room place : ℕ) (bytes : List �
 tokens_stand true lists o room place bytes s = subst (λ (k : ℕ). Stand lists k room place bytes (item_at room place bytes)) (sym s) (item_stands lists room place bytes)
 tokens_stand false lists zero room place bytes s = absurd (omega arith)
 tokens_stand false lists (suc o) room place bytes s = inside_stands lists o room place bytes
+
+-- going from token to token
+same_front : (place : ℕ) (w : Word) (a b : Texts) → (w ≢ word.End → a ≡ b) → first_then place w a ≡ front_word place w b
+same_front place word.End a b h = refl
+same_front place (word.Number x) a b h = ap (next (record { place = place; word = word.Number x })) (h (λ e. cc))
+same_front place word.Add a b h = ap (next (record { place = place; word = word.Add })) (h (λ e. cc))
+same_front place word.Del a b h = ap (next (record { place = place; word = word.Del })) (h (λ e. cc))
+same_front place word.Header a b h = ap (next (record { place = place; word = word.Header })) (h (λ e. cc))
+same_front place word.Cnf a b h = ap (next (record { place = place; word = word.Cnf })) (h (λ e. cc))
+same_front place word.Percent a b h = ap (next (record { place = place; word = word.Percent })) (h (λ e. cc))
+same_front place word.Other a b h = ap (next (record { place = place; word = word.Other })) (h (λ e. cc))
+
+same_lists : (lists o : ℕ) (w : Word) → lists_after lists o w ≡ open_after lists o w
+same_lists lists o word.End = refl
+same_lists lists o (word.Number (pos zero)) = refl
+same_lists lists o (word.Number (pos (suc n))) = refl
+same_lists lists o (word.Number (negsuc n)) = refl
+same_lists lists o word.Add = refl
+same_lists lists o word.Del = refl
+same_lists lists o word.Header = refl
+same_lists lists o word.Cnf = refl
+same_lists lists o word.Percent = refl
+same_lists lists o word.Other = refl
+
+starts : (o : ℕ) → IsStart (o == 0) o
+starts zero = refl
+starts (suc o) = let t : (suc o == 0) ≡ false = grind (arith, nat_tests) in rw t (omega arith)
+
+-- what is left is read as the definition says
+abbrev Follows : ℕ → ℕ → Type 0
+Follows most lists = (o room place : ℕ) (bytes : List ℕ) → length bytes < most → binary_texts most lists o room place bytes ≡ binary_from lists o room place bytes
+
+by_read : (most lists o room place : ℕ) (bytes : List ℕ) (this : TokenRead) → length bytes < suc most → Follows most lists → Stand lists o room place bytes this
+    → texts_by this (λ t rest. binary_texts most lists (lists_after lists o t.word) (room - (length bytes - length rest)) (place + (length bytes - length rest)) rest) ≡ binary_from lists o room place bytes
+by_read most lists o room place bytes (reads t rest) few more s =
+    same_front t.place t.word _ _ (λ ne.
+    let fewer : length rest < length bytes = s.3 ne in
+    more (lists_after lists o t.word) (room - (length bytes - length rest)) (place + (length bytes - length rest)) rest (omega arith)
+    ∙ ap (λ (k : ℕ). binary_from lists k (room - (length bytes - length rest)) (place + (length bytes - length rest)) rest) (same_lists lists o t.word))
+    ∙ sym s.1
+by_read most lists o room place bytes (misspells kind at) few more s = sym s
+by_read most lists o room place bytes passes few more s = sym s
+
+texts_follow : (most lists : ℕ) → Follows most lists
+unfolding binary_texts
+texts_follow zero lists o room place bytes few = absurd (omega arith)
+texts_follow (suc most) lists o room place bytes few =
+    by_read most lists o room place bytes (token_at (o == 0) room place bytes) few (texts_follow most lists) (tokens_stand (o == 0) lists o room place bytes (starts o))
+
+pub machine_spells : (lists o room place : ℕ) (bytes : List ℕ) → binary_spelled lists o room place bytes ≡ binary_from lists o room place bytes
+machine_spells lists o room place bytes = texts_follow (suc (length bytes)) lists o room place bytes (omega arith)

@@ -9,7 +9,7 @@ mod witnesses;
 mod write;
 
 pub use front::{misplaced, next_token};
-pub use laws::binary_tokens_stand;
+pub use laws::{binary_machine_spells, binary_tokens_stand};
 pub use lemma::{DsrLine, Lemma};
 pub use literals::{Literals, read_literals};
 pub use witnesses::{find_clause, find_witness};
