@@ -7,21 +7,6 @@ ghost use Rattle.sr_scan.specs.Binary.{value_of, spelled_value, number_bytes};
 
 use sr_base::{ByteList, NoMemory};
 
-/// Adds all the bytes at the end, or none.
-fn append(out: &mut ByteList, bytes: &[u8]) -> Result<(), NoMemory>
-    ensures ok { OnOk result (out.new ≡ out.old ++ bytes.now) }
-    ensures err { OnErr result (out.new ≡ out.old) }
-{
-    let before = out.as_slice().len();
-    for byte in bytes {
-        if out.push(*byte).is_err() {
-            out.cut(before);
-            return Err(NoMemory);
-        }
-    }
-    Ok(())
-}
-
 /// Spells a size at the end of an array, and says where it begins; there is room for a sign before it.
 fn spell(text: &mut [u8; 20], size: u64) -> usize
     requires { size ≤ 2 ^ 63 }
@@ -54,9 +39,9 @@ pub fn put_number_text(out: &mut ByteList, value: i64) -> Result<(), NoMemory>
     let at = spell(&mut text, value.unsigned_abs());
     if value < 0 {
         text[at - 1] = b'-';
-        return append(out, &text[at - 1..]);
+        return out.extend(&text[at - 1..]);
     }
-    append(out, &text[at..])
+    out.extend(&text[at..])
 }
 
 /// The value that spells a number: twice its size, and one more where it is negative.
@@ -102,5 +87,5 @@ pub fn put_number_binary(out: &mut ByteList, value: i64) -> Result<(), NoMemory>
 {
     let mut bytes = [0; 5];
     let len = spell_value(&mut bytes, value_of(value));
-    append(out, &bytes[..len])
+    out.extend(&bytes[..len])
 }
