@@ -1,0 +1,5 @@
+pub mod DropLemmas
+pub mod HintLemmas
+pub mod StepLemmas
+pub mod BeginLemmas
+pub mod ItemLemmas
