@@ -90,9 +90,12 @@ begun_or_none read behind form o t old mid before between new result first same 
     at (Ok None) given = λ all h. let s = stands all h in s.1 ∙ given s.0 s.2
     at (Err e) given = λ all h. let s = stands all h in stops_same e (read all) (behind s.0) s.1 (given s.0 s.2)
 
--- one reading for another
-pub some_by : (f h : Texts → ItemRead) (old new : Option Texts) (x : LsrItem) → ((all : Texts) → f all ≡ h all) → GivesOf h old new (Ok x) → GivesItemOf f old new (Ok (Some x))
-some_by f h old new x same given all e = let s = given all e in (s.0, s.1, same all ∙ s.2)
+-- an item is read as another reading says, where its first token leaves so many lists open
+pub some_by : (f h : Texts → ItemRead) (form : Form) (w : Word) (k : ℕ) (r : Reader) (o : Outside) (new : Option Texts) (x : LsrItem) → open_after 2 0 w ≡ k → ((all : Texts) → f all ≡ h all)
+    → GivesOf h (tokens_left form 2 k r o) new (Ok x) → GivesItemOf f (tokens_left form 2 (open_after 2 0 w) r o) new (Ok (Some x))
+some_by f h form w k r o new x opens same given all e =
+    let s = given all (ap (λ (n : ℕ). tokens_left form 2 n r o) (sym opens) ∙ e) in (s.0, s.1, same all ∙ s.2)
 
-pub fault_by : (f h : Texts → ItemRead) (old new left : Option Texts) (e : InFault) → ((all : Texts) → f all ≡ h all) → GivesOf h old new (Err e) → GivesItemOf f old left (Err e)
-fault_by f h old new left e same given all h' = stops_same e (f all) (h all) (same all) (given all h')
+pub fault_by : (f h : Texts → ItemRead) (form : Form) (w : Word) (k : ℕ) (r : Reader) (o : Outside) (new left : Option Texts) (e : InFault) → open_after 2 0 w ≡ k → ((all : Texts) → f all ≡ h all)
+    → GivesOf h (tokens_left form 2 k r o) new (Err e) → GivesItemOf f (tokens_left form 2 (open_after 2 0 w) r o) left (Err e)
+fault_by f h form w k r o new left e opens same given all h' = stops_same e (f all) (h all) (same all) (given all (ap (λ (n : ℕ). tokens_left form 2 n r o) (sym opens) ∙ h'))

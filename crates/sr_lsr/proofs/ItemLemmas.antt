@@ -30,6 +30,26 @@ literals_hand_on lim id = record { misspelled = λ kind place. refl; past = refl
 pub binary_step_hands_on : (lim : LimitValues) → HandsOn (binary_step_at lim)
 binary_step_hands_on lim = record { misspelled = λ kind place. refl; past = refl }
 
+-- a token in front of a list of literals
+pub literals_next : (lim : LimitValues) (id : ℕ) (t : Token) (rest : Texts)
+    → with_literals lim id (numbers_after limit.Vars lim.vars [] (front_word t.place t.word rest)) ≡ with_literals lim id (numbers_after limit.Vars lim.vars [] (next t rest))
+unfolding numbers_after
+literals_next lim id t rest = by t.word
+  where
+    by : (w : Word) → with_literals lim id (numbers_after limit.Vars lim.vars [] (front_word t.place w rest)) ≡ with_literals lim id (numbers_after limit.Vars lim.vars [] (next (record { place = t.place; word = w }) rest))
+    by word.End = refl
+    by (word.Number x) = refl
+    by word.Add = refl
+    by word.Del = refl
+    by word.Header = refl
+    by word.Cnf = refl
+    by word.Percent = refl
+    by word.Other = refl
+
+-- a size that isn't 0
+pub some_size : (x : ℤ) (n ids place : ℕ) → GivesSize x ids place (Ok n) → (n ≡ 0 → ⊥) → x ≡ pos 0 → ⊥
+some_size x n ids place g some z = some (ap nat_abs (sym g.0 ∙ z))
+
 -- behind the number of an item of a text: `d`, another number, and what else stands there
 pub kind_deletion : (lim : LimitValues) (ids id at : ℕ) (t : Token) (rest : Texts) → ids ≡ lim.ids → t.word ≡ word.Del → kind_at lim id at (front_word t.place t.word rest) ≡ dropped_after ids id [] rest
 kind_deletion lim ids id at t rest i e = ap (λ w. kind_at lim id at (front_word t.place w rest)) e ∙ ap (λ (n : ℕ). dropped_after n id [] rest) (sym i)
@@ -39,9 +59,6 @@ pub kind_step : (lim : LimitValues) (id at : ℕ) (t : Token) (x : ℤ) (rest : 
 kind_step lim id at t x rest e some =
     let other : (id == 0) ≡ false = grind (arith, nat_tests) in
     ap (λ w. kind_at lim id at (front_word t.place w rest)) e ∙ rw other refl ∙ ap (λ w. with_literals lim id (numbers_after limit.Vars lim.vars [] (next (record { place = t.place; word = w }) rest))) (sym e)
-
-pub kind_zero : (lim : LimitValues) (id at : ℕ) (t : Token) (x : ℤ) (rest : Texts) → t.word ≡ word.Number x → id ≡ 0 → kind_at lim id at (front_word t.place t.word rest) ≡ misspells BadNumber at
-kind_zero lim id at t x rest e none = ap (λ w. kind_at lim id at (front_word t.place w rest)) e ∙ ap (λ (n : ℕ). kind_at lim n at (front_word t.place (word.Number x) rest)) none
 
 pub kind_other : (lim : LimitValues) (id at : ℕ) (t : Token) (rest : Texts) → (t.word ≡ word.Del → ⊥) → ((x : ℤ) → t.word ≡ word.Number x → ⊥)
     → kind_at lim id at (front_word t.place t.word rest) ≡ misspells (misplaced t.word) t.place
