@@ -1,0 +1,6 @@
+pub mod DropLemmas
+pub mod HintLemmas
+pub mod StepLemmas
+pub mod BeginLemmas
+pub mod ItemLemmas
+pub mod NextLemmas
