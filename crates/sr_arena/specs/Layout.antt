@@ -42,7 +42,7 @@ pub record IsLaid (ls : List Literal) (hs : List Header) : Type 0 where
   pub none : (header_at hs 0).place ≡ nowhere
   pub within : (i : ℕ) → (header_at hs i).place ≢ nowhere → (header_at hs i).place + len_of (header_at hs i) ≤ length ls
   pub apart : (i j : ℕ) → i < j → (header_at hs i).place ≢ nowhere → (header_at hs j).place ≢ nowhere → (header_at hs i).place + len_of (header_at hs i) ≤ (header_at hs j).place
-  pub room : length ls + 4 * length hs < nowhere
+  pub room : length ls + 4 * length hs < 2147483648
 
 abbrev pub laid_at : Laid → ℕ → Cell
 laid_at m at = slice_index_or m.cells at gone

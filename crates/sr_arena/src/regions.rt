@@ -13,6 +13,9 @@ use std::marker::Model;
 /// The place that no clause can have. A freed clause has it.
 const NOWHERE: u32 = 4_294_967_295;
 
+/// The regions take fewer cells of 32 bits than this.
+const MOST_CELLS: usize = 2_147_483_648;
+
 /// Where a clause's literals lie, how many they are, its mark, and its links: four cells of 32 bits.
 #[derive(Clone, Copy)]
 struct Header {
@@ -74,7 +77,7 @@ impl Regions {
     #[inline]
     pub fn count(&self) -> usize
         ensures value { result ≡ length self.now.cells }
-        ensures fits { 4 * result < 4294967295 }
+        ensures fits { 4 * result < 2147483648 }
     {
         self.headers.len()
     }
@@ -176,7 +179,7 @@ impl Regions {
         ensures { let c = laid_at self.old at in self.new ≡ lay self.old at (record c { marked = on }) }
     {
         let header = &mut self.headers[at];
-        header.size = header.size / 2 * 2 + on as u32;
+        header.size = 2 * (header.size / 2) + on as u32;
     }
 
     /// Lets a clause go, and answers how many literals it had.
@@ -196,7 +199,7 @@ impl Regions {
         ensures err { OnErr result (self.new ≡ self.old) }
     {
         let place = self.lits.len();
-        let room = NOWHERE as usize - place - 4 * self.headers.len();
+        let room = MOST_CELLS - (place + 4 * self.headers.len());
         if room <= 4 || lits.len() >= room - 4 {
             return Err(NoMemory);
         }
