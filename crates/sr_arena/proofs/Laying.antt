@@ -97,9 +97,9 @@ laid_set ls hs at h l lt nz same =
     let other : (i : ℕ) → i ≢ at → header_at (set hs at h) i ≡ header_at hs i = (λ i ne. get_or-set_other hs at i h no_header ne) in
     let stays : (i : ℕ) → (header_at (set hs at h) i).place ≢ nowhere → ((header_at (set hs at h) i).place ≡ (header_at hs i).place) × (len_of (header_at (set hs at h) i) ≡ len_of (header_at hs i)) =
     (λ i. by_eq i at
-        (λ e. let here : header_at (set hs at h) i ≡ h = ap (λ j. header_at (set hs at h) j) e ∙ get_or-set_same hs at h no_header lt in
-        rw here (λ ne. let s = same ne in (s.0 ∙ ap (λ j. (header_at hs j).place) (sym e), s.1 ∙ ap (λ j. len_of (header_at hs j)) (sym e))))
-        (λ ne. rw (other i ne) (λ _. (refl, refl)))) in
+    (λ e. let here : header_at (set hs at h) i ≡ h = ap (λ j. header_at (set hs at h) j) e ∙ get_or-set_same hs at h no_header lt in
+    rw here (λ ne. let s = same ne in (s.0 ∙ ap (λ j. (header_at hs j).place) (sym e), s.1 ∙ ap (λ j. len_of (header_at hs j)) (sym e))))
+    (λ ne. rw (other i ne) (λ _. (refl, refl)))) in
     record {
       dummy = omega (arith, l.dummy, length-set hs at h);
       none = ap (λ (x : Header). x.place) (other 0 (λ e. absurd (omega arith))) ∙ l.none;
@@ -222,13 +222,13 @@ swaps ls ls' hs at i j h m laid view f e i_in j_in =
       laid = laid_lits ls ls' hs laid size;
       view = lay_is m ls ls' hs hs at (record (laid_at m at) { lits = swap (laid_at m at).lits i j }) view size refl
           (cells_put ls ls' hs hs at (record (laid_at m at) { lits = swap (laid_at m at).lits i j }) refl f.lt (ap (cell_of ls') f.is ∙ cell_whole ls' h f.placed ∙ here)
-              (λ k nk. by_eq (header_at hs k).place nowhere
-              (λ g. cell_gone ls' (header_at hs k) g ∙ sym (cell_gone ls (header_at hs k) g))
-              (λ pk. cell_whole ls' (header_at hs k) pk ∙ ap (λ x. held_cell x (header_at hs k).first (header_at hs k).second (mark_of (header_at hs k)))
-              (part_same ls' ls (header_at hs k).place (len_of (header_at hs k)) size (omega (arith, laid.within k pk))
-              (λ n lo up. let out : (n < h.place) ⊎ (h.place + len_of h ≤ n) = outside ls hs at k n h (laid_at m at) laid f nk pk lo up in
-              big.2 n (λ x. not_in n h.place (len_of h) i out hi x) (λ x. not_in n h.place (len_of h) j out hj x)))
-              ∙ sym (cell_whole ls (header_at hs k) pk))));
+          (λ k nk. by_eq (header_at hs k).place nowhere
+          (λ g. cell_gone ls' (header_at hs k) g ∙ sym (cell_gone ls (header_at hs k) g))
+          (λ pk. cell_whole ls' (header_at hs k) pk ∙ ap (λ x. held_cell x (header_at hs k).first (header_at hs k).second (mark_of (header_at hs k)))
+          (part_same ls' ls (header_at hs k).place (len_of (header_at hs k)) size (omega (arith, laid.within k pk))
+          (λ n lo up. let out : (n < h.place) ⊎ (h.place + len_of h ≤ n) = outside ls hs at k n h (laid_at m at) laid f nk pk lo up in
+          big.2 n (λ x. not_in n h.place (len_of h) i out hi x) (λ x. not_in n h.place (len_of h) j out hj x)))
+          ∙ sym (cell_whole ls (header_at hs k) pk))));
     }
 
 -- one more clause

@@ -1,5 +1,5 @@
 // Compaction: new names first, then the held clauses in new regions.
-ghost use Rattle.std.specs.Prelude.{◌≡◌, ◌∷◌, IfOk};
+ghost use Rattle.std.specs.Prelude.{◌≡◌, ◌∷◌, cond, IfOk};
 ghost use Rattle.sr_arena.specs.Cells.{gone, weights};
 ghost use Rattle.sr_arena.specs.Compaction.{name_in};
 ghost use Rattle.sr_arena.specs.Naming.{names_from, packed};
@@ -19,13 +19,20 @@ pub fn names_of(alloc: Global, from: &Regions) -> Result<Vec<u32>, NoMemory>
     let mut next: u32 = 1;
     for at in 0..count {
         let is_held = from.is_held(at);
-        let name = if is_held { next } else { 0 };
-        if names.push(name).is_err() {
+        if names.push(name_if(is_held, next)).is_err() {
             return Err(NoMemory);
         }
         next += is_held as u32;
     }
     Ok(names)
+}
+
+/// The next name for a clause that is held, and 0 for others.
+#[inline]
+fn name_if(is_held: bool, next: u32) -> u32
+    ensures { result ≡ cond is_held next 0 }
+{
+    if is_held { next } else { 0 }
 }
 
 /// The held clauses in regions of their own, with their links under the new names.

@@ -26,7 +26,7 @@ invariant_of-self-else-is_err-2 c =
     let more : c.extend_from_slice.new.self.items ≡ c.self.inside.lits.items ++ c.args.lits.now = rw ok at c.extend_from_slice.ensures.items in
     let pushed : c.push.new.self.items ≡ c.self.inside.headers.items ++ header c.len-place.result (length c.args.lits.now) c.args.extras.first c.args.extras.second c.args.extras.marked ∷ [] = rw ok2 at c.push.ensures.items in
     rw (more, pushed) (pushes c.self.inside.lits.items c.args.lits.now c.self.inside.headers.items (header c.len-place.result (length c.args.lits.now) c.args.extras.first c.args.extras.second c.args.extras.marked) c.args.self.now c.self.invariant c.self.view_is
-        (omega (arith, c.len-place.ensures, c.self.inside.lits.ok.0)) (size_half (length c.args.lits.now) c.args.extras.marked) (omega (arith, c.len-place.ensures, c.len.ensures, c.self.inside.lits.ok.0, c.self.inside.headers.ok.0, c.if-lits-room.false))).laid
+    (omega (arith, c.len-place.ensures, c.self.inside.lits.ok.0)) (size_half (length c.args.lits.now) c.args.extras.marked) (omega (arith, c.len-place.ensures, c.len.ensures, c.self.inside.lits.ok.0, c.self.inside.headers.ok.0, c.if-lits-room.false))).laid
 
 pub returns-clause-ok : goal.returns-clause-ok
 returns-clause-ok c =
@@ -35,5 +35,5 @@ returns-clause-ok c =
     let more : c.extend_from_slice.new.self.items ≡ c.self.inside.lits.items ++ c.args.lits.now = rw ok at c.extend_from_slice.ensures.items in
     let pushed : c.push.new.self.items ≡ c.self.inside.headers.items ++ header c.len-place.result (length c.args.lits.now) c.args.extras.first c.args.extras.second c.args.extras.marked ∷ [] = rw ok2 at c.push.ensures.items in
     let view = (pushes c.self.inside.lits.items c.args.lits.now c.self.inside.headers.items (header c.len-place.result (length c.args.lits.now) c.args.extras.first c.args.extras.second c.args.extras.marked) c.args.self.now c.self.invariant c.self.view_is
-        (omega (arith, c.len-place.ensures, c.self.inside.lits.ok.0)) (size_half (length c.args.lits.now) c.args.extras.marked) (omega (arith, c.len-place.ensures, c.len.ensures, c.self.inside.lits.ok.0, c.self.inside.headers.ok.0, c.if-lits-room.false))).view in
+    (omega (arith, c.len-place.ensures, c.self.inside.lits.ok.0)) (size_half (length c.args.lits.now) c.args.extras.marked) (omega (arith, c.len-place.ensures, c.len.ensures, c.self.inside.lits.ok.0, c.self.inside.headers.ok.0, c.if-lits-room.false))).view in
     rw (more, pushed) (view ∙ rw (size_mark (length c.args.lits.now) c.args.extras.marked) refl)
