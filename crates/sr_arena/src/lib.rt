@@ -1,0 +1,18 @@
+//! Clauses in one memory, under references that stay until the memory is compacted.
+//!
+//! The literals of all clauses lie in one region and a header for each clause in another, so a clause of n literals takes
+//! n + 4 cells of 32 bits, and no clause has a block of its own. Contracts see a list of cells by reference: literals, two
+//! links and a mark.
+#![tactic(auto)]
+
+mod compaction;
+mod counting;
+mod memory;
+mod moves;
+mod references;
+mod regions;
+
+pub use counting::Steps;
+pub use memory::ClauseMem;
+pub use moves::CrefMap;
+pub use references::{Cref, CrefList, Side};
