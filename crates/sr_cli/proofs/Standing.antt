@@ -32,9 +32,9 @@ use Rattle.sr_cli.specs.Runs.{Stands, Tallies, Takes, Judges, counts_by}
 use Rattle.sr_cli.specs.declared.proof.Tally.{Tally}
 
 -- before the first item
-pub stands_first : (lim : LimitValues) (strict : Bool) (f : List (List Literal)) (start' : Option Texts) (c : Checking) → has_empty f ≡ false
+pub stands_first : (lim : LimitValues) (form : Form) (strict : Bool) (f : List (List Literal)) (start' : Option Texts) (c : Checking) → has_empty f ≡ false
     → c ≡ record { strict = strict; most = lim.cells; state = start f } → Stands lim form strict f start' start' c (record { steps = 0; hints = 0 })
-stands_first lim strict f start' c full fresh = record {
+stands_first lim form strict f start' c full fresh = record {
   items = [];
   pivots = tt;
   going = rw full refl;
