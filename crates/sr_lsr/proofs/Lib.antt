@@ -4,3 +4,4 @@ pub mod StepLemmas
 pub mod BeginLemmas
 pub mod ItemLemmas
 pub mod NextLemmas
+pub mod WriteLemmas

@@ -7,5 +7,7 @@ mod hints;
 mod items;
 mod sizes;
 mod steps;
+mod write;
 
 pub use items::next_item;
+pub use write::item_bytes;
