@@ -6,3 +6,4 @@ pub mod Following
 pub mod Grouping
 pub mod Fitting
 pub mod Checks
+pub mod Entering
