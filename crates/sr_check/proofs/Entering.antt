@@ -1,5 +1,5 @@
 -- Lemmas on lists of numbers by literal.
-use Rattle.std.proofs.Common.{◌≡◌, ◌≢◌, ◌⊎◌, inl, inr, ℕ, suc, zero, ◌+◌, ◌-◌, ◌<◌, ◌≤◌, ◌==◌, true, false, cond, List, [], ◌∷◌, ◌++◌, length, get_or, set, refl, sym, ◌∙◌, ap, subst, arith, get_or-set_same, get_or-set_other}
+use Rattle.std.proofs.Common.{◌≡◌, ◌≢◌, ◌⊎◌, inl, inr, ℕ, suc, zero, ◌+◌, ◌<◌, ◌≤◌, ◌==◌, true, false, List, [], ◌∷◌, ◌++◌, length, get_or, set, refl, sym, ◌∙◌, ap, subst, arith, get_or-set_same, get_or-set_other}
 use Rattle.std.proofs.lemmas.List.{length-append, length-set, get_or_append_left, get_or_past}
 use Rattle.std.proofs.Math.Seq.{get_or-append_seam}
 use Rattle.std.proofs.lemmas.Bool.{cases_lt}
@@ -10,7 +10,7 @@ use Rattle.sr_base.proofs.Literals.{same_tells}
 use Rattle.sr_model.specs.Assignment.{holds_number}
 use Rattle.sr_model.specs.Chain.{Numbered}
 use Rattle.sr_check.specs.declared.occurrences.Entry.{Entry}
-use Rattle.sr_check.specs.Occurring.{nothing, numbers_from, numbers_under, LeadBack, AreLinked, Enters, KeepsNumbers, IsUnder, AreUnder}
+use Rattle.sr_check.specs.Occurring.{Occurring, under, KeepsListed, nothing, numbers_from, numbers_under, LeadBack, AreLinked, Enters, KeepsNumbers, IsUnder, AreUnder}
 use Rattle.sr_check.proofs.Paging.{by_eq}
 use Rattle.sr_check.proofs.Marking.{by_test}
 
@@ -142,3 +142,13 @@ are_more old new (p ∷ ps) k h = (under_more old new p.0 p.1 k h.0, are_more ol
 pub are_push : (lists : Literal → List ℕ) (live : Numbered) (n : ℕ) (c : List Literal) → AreUnder lists live → IsUnder lists n c → AreUnder lists (live ++ (n, c) ∷ [])
 are_push lists [] n c h more = (more, tt)
 are_push lists (p ∷ ps) n c h more = (h.0, are_push lists ps n c h.1 more)
+
+-- lists that have the clauses, if they are built
+pub listed_more : (old new : Occurring) (live : Numbered) → new.built ≡ old.built → KeepsNumbers (under old) (under new) → KeepsListed old live → KeepsListed new live
+listed_more old new live built kept k b = are_more (under old) (under new) live kept (k (sym built ∙ b))
+
+pub listed_push : (old new : Occurring) (live : Numbered) (n : ℕ) (c : List Literal) → new.built ≡ old.built → KeepsNumbers (under old) (under new) → (old.built ≡ true → IsUnder (under new) n c) → KeepsListed old live → KeepsListed new (live ++ (n, c) ∷ [])
+listed_push old new live n c built kept entered k b = are_push (under new) live n c (listed_more old new live built kept k b) (entered (sym built ∙ b))
+
+pub listed_limit : (old new : Occurring) (live : Numbered) → (new.built ≡ true → new ≡ old) → KeepsListed old live → KeepsListed new live
+listed_limit old new live same k b = let is : new ≡ old = same b in subst (λ (o : Occurring). AreUnder (under o) live) (sym is) (k (sym (ap (λ (o : Occurring). o.built) is) ∙ b))

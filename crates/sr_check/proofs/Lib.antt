@@ -7,3 +7,5 @@ pub mod Grouping
 pub mod Fitting
 pub mod Checks
 pub mod Entering
+pub mod Gathering
+pub mod Choosing

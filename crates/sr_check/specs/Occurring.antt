@@ -1,6 +1,6 @@
 -- Lists of clause numbers by literal. A head tells the place of a list's newest entry, and each entry that of an older
 -- one; places are counted from 1, and 0 is the end.
-use Rattle.std.specs.Prelude.{ℕ, zero, suc, ◌+◌, ◌<◌, ◌≤◌, ◌==◌, ◌≡◌, Bool, true, cond, List, [], ◌∷◌, ◌++◌, length, slice_index_or}
+use Rattle.std.specs.Prelude.{ℕ, zero, suc, ◌≤◌, ◌==◌, ◌≡◌, Bool, true, cond, List, [], ◌∷◌, ◌++◌, length, slice_index_or}
 use Rattle.sr_base.specs.Literal.{Literal, literal_code, same}
 use Rattle.sr_model.specs.Assignment.{holds_number}
 use Rattle.sr_model.specs.Chain.{Numbered}

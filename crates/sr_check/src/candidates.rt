@@ -29,16 +29,13 @@ pub fn candidates(
 }
 
 /// Adds the numbers under the literals that are made false or sent elsewhere.
-fn gather_moved(
-    lists: &Occurrences,
-    subst: &Subst,
-    numbers: &mut Vec<u32>,
-) -> Result<(), NoMemory>
+fn gather_moved(lists: &Occurrences, subst: &Subst, numbers: &mut Vec<u32>) -> Result<(), NoMemory>
     ensures { OnOk result (numbers.new.items ≡ numbers.old.items ++ under_each lists.now (moved_literals subst.now)) }
 {
     lists.gather(subst.pivot().neg(), numbers)?;
     gather_complements(lists, subst.assigned(), numbers)?;
-    gather_sent(lists, subst.maps(), numbers)
+    gather_sent(lists, subst.maps(), numbers)?;
+    Ok(())
 }
 
 /// Adds the numbers under the complements of literals.

@@ -17,6 +17,6 @@ loop-l-preserved c =
       linked = c.enter_one.ensures.linked;
       kept = keeps_then first old new c.loop-l.invariant.kept keeps;
       entered = rw more (under_push new c.args.number (take c.loop-l.l-index c.args.lits.now) c.l-item.result
-        (under_more old new c.args.number (take c.loop-l.l-index c.args.lits.now) keeps c.loop-l.invariant.entered)
-        (under_enters old new c.l-item.result c.args.number c.in_ok-enter_one.ensures.ok));
+          (under_more old new c.args.number (take c.loop-l.l-index c.args.lits.now) keeps c.loop-l.invariant.entered)
+          (under_enters old new c.l-item.result c.args.number c.in_ok-enter_one.ensures.ok));
     }

@@ -1,4 +1,4 @@
-use Rattle.std.proofs.Common.{◌≡◌, ◌∙◌, ◌+◌, ◌-◌, ◌∷◌, ◌++◌, [], ap, sym, length, get_or, arith, List, ℕ}
+use Rattle.std.proofs.Common.{◌≡◌, ◌∙◌, ◌-◌, ◌∷◌, ◌++◌, [], ap, sym, length, get_or, arith, List, ℕ}
 use Rattle.std.proofs.lemmas.List.{append_assoc, append-nil}
 use Rattle.sr_check.specs.Occurring.{nothing, numbers_from}
 use Rattle.sr_check.specs.declared.occurrences.Entry.{Entry}

@@ -1,6 +1,5 @@
-use Rattle.std.proofs.Common.{◌≡◌, ◌∙◌, ◌∷◌, ◌++◌, [], ap, sym, List, ℕ}
+use Rattle.std.proofs.Common.{◌∙◌, ◌∷◌, ◌++◌, [], ap, sym}
 use Rattle.std.proofs.lemmas.List.{append_assoc}
-use Rattle.sr_base.specs.Literal.{Literal}
 use Rattle.sr_model.specs.Chain.{Numbered}
 use Rattle.sr_check.specs.Occurring.{under, AreUnder}
 use Rattle.sr_check.proofs.Entering.{are_more, are_push}

@@ -1,4 +1,4 @@
-use Rattle.std.proofs.Common.{◌≡◌, true, ◌++◌, List, ℕ, length}
+use Rattle.std.proofs.Common.{◌≡◌, true, ◌++◌, length}
 use Rattle.sr_model.specs.Chain.{Numbered}
 use Rattle.sr_check.specs.Occurring.{under, AreUnder}
 use Rattle.sr_check.proofs.occurrences.Occurrences.of_clauses.Given as goal
