@@ -10,6 +10,7 @@ ghost use Rattle.sr_check.specs.Trail.{CoversClauses};
 use crate::live::LiveClauses;
 use crate::marks::{Marks, cover_all};
 use crate::meeting::{Meet, Scratch, meet_step};
+use crate::occurrences::Occurrences;
 use crate::pages::Table;
 use sr_base::{AddStop, Cause, Items, Limits, Lit, NoMemory};
 use sr_model::Verdict;
@@ -17,6 +18,9 @@ use sr_wit::{Formula, LsrItem, Step};
 use std::alloc::Global;
 use std::marker::Model;
 use thiserror::Error;
+
+/// The entries in the lists of clauses by literal that are let be however few cells the live clauses take.
+const SLACK: u64 = 65_536;
 
 /// Why an item isn't taken. The checker is then as it was.
 #[derive(Clone, Copy, Debug, PartialEq, Eq, Error)]
@@ -107,6 +111,8 @@ impl Checker {
                 alloc,
                 marks,
                 index,
+                lists: Occurrences::new(alloc),
+                numbers: Vec::new(alloc),
                 left: Items::new(alloc),
             },
         })
@@ -180,8 +186,10 @@ impl Checker {
             return Err(TakeStop::Cells);
         }
         cover_all(&mut self.scratch.marks, lits)?;
+        self.scratch.lists.enter(id, lits)?;
         self.live.add_last(id, lits)?;
         self.last = id;
+        self.scratch.lists.limit(2 * self.live.cells() + SLACK);
         Ok(())
     }
 

@@ -3,12 +3,14 @@
 //! It takes the items of a proof one by one, and keeps the clauses that are live and the verdict.
 #![tactic(auto)]
 
+mod candidates;
 mod chains;
 mod checker;
 mod groups;
 mod live;
 mod marks;
 mod meeting;
+mod occurrences;
 mod pages;
 #[cfg(test)]
 mod tests;

@@ -18,7 +18,7 @@ use std::process::ExitCode;
 
 /// What the words ask for.
 #[derive(Clone, Copy)]
-struct Asked<'a> {
+struct Request<'a> {
     kind: Kind,
     from: Form,
     to: Option<Form>,
@@ -42,14 +42,14 @@ fn form_named(word: &str) -> Option<Form> {
 }
 
 /// What the words ask for; none where they ask for nothing.
-fn asked(words: &[String]) -> Option<Asked<'_>> {
+fn request_of(words: &[String]) -> Option<Request<'_>> {
     let [kind, from, to, name] = words else {
         return None;
     };
     let kind = kind_named(kind.as_str())?;
     let from = form_named(from.as_str())?;
     let to = form_named(to.as_str());
-    Some(Asked {
+    Some(Request {
         kind,
         from,
         to,
@@ -67,13 +67,13 @@ fn main(rt: HostRuntime) -> ExitCode {
     let Some(words) = words(&rt) else {
         return ExitCode::from(7);
     };
-    let Some(asked) = asked(words.as_slice()) else {
+    let Some(request) = request_of(words.as_slice()) else {
         return ExitCode::from(2);
     };
     let alloc = rt.alloc();
     let mut desk = HostDesk::new(rt);
     match copy_file(
-        alloc, asked.kind, asked.from, asked.to, asked.name, &mut desk,
+        alloc, request.kind, request.from, request.to, request.name, &mut desk,
     ) {
         Ok(()) => ExitCode::from(0),
         Err(CopyStop::Spelling) => ExitCode::from(3),

@@ -121,7 +121,7 @@ fn repeats_are_written_once(rt: HostRuntime) -> Result<(), Fail> {
         alloc,
         text,
         text,
-        b"c a comment\n 1\t2 2\r\n 0 c",
+        b"c a comment\n 1\t2 2\r\n 0\nc",
         b"1 2 0\n",
     )
 }
