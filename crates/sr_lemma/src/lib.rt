@@ -4,6 +4,7 @@
 mod front;
 mod laws;
 mod lemma;
+mod lists;
 mod literals;
 mod witnesses;
 mod write;
@@ -11,6 +12,7 @@ mod write;
 pub use front::{misplaced, next_token};
 pub use laws::{binary_machine_spells, binary_tokens_stand};
 pub use lemma::{DsrLine, Lemma};
+pub use lists::push_with_room;
 pub use literals::{Literals, read_literals};
 pub use witnesses::{find_clause, find_witness};
 pub use write::{put_clause, put_end, put_number};

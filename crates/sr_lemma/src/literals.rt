@@ -7,6 +7,7 @@ ghost use Rattle.sr_lemma.specs.Reads.{GivesLiterals, HasInCause};
 ghost use Rattle.sr_lemma.specs.Told.{literals_told};
 
 use crate::front::{misplaced, next_token};
+use crate::lists::push_with_room;
 use sr_base::{Form, Items, LimitKind, Lit, LitList};
 use sr_desk::{ByteReader, Desk};
 use sr_model::{Token, Word};
@@ -75,7 +76,7 @@ pub fn read_literals<D: Desk>(
         let Some(l) = literal_within(x, bound) else {
             return Err(InFault::Limit(LimitKind::Vars));
         };
-        if lits.push(l).is_err() {
+        if push_with_room(alloc, &mut lits, l).is_err() {
             return Err(InFault::NoMemory);
         }
         token = next_token(form, false, reader, desk)?;

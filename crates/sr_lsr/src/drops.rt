@@ -1,5 +1,5 @@
 // The numbers of a deletion.
-ghost use Rattle.std.specs.Prelude.{◌≡◌, true, IsTrue, IfOk};
+ghost use Rattle.std.specs.Prelude.{◌≡◌, ◌≤◌, true, IsTrue, IfOk};
 ghost use Rattle.sr_desk.specs.Outside.{OnlyReads};
 ghost use Rattle.sr_desk.specs.Next.{IsSameReader};
 ghost use Rattle.sr_model.specs.Judging.{ItemHasPivot};
@@ -7,11 +7,12 @@ ghost use Rattle.sr_wit.specs.LsrItems.{item_of};
 ghost use Rattle.sr_lemma.specs.Left.{tokens_left};
 ghost use Rattle.sr_lemma.specs.Reads.{HasInCause};
 ghost use Rattle.sr_lsr.specs.Reads.{GivesDrop};
+ghost use Rattle.sr_lsr.specs.Written.{IsSmall, IsSmallItem};
 
 use crate::sizes::size_within;
 use sr_base::{Form, Items};
 use sr_desk::{ByteReader, Desk};
-use sr_lemma::{misplaced, next_token};
+use sr_lemma::{misplaced, next_token, push_with_room};
 use sr_model::Word;
 use sr_wit::{InFault, LsrItem};
 use std::alloc::Global;
@@ -25,8 +26,11 @@ pub(crate) fn read_drop<D: Desk>(
     reader: &mut ByteReader,
     desk: &mut D,
 ) -> Result<LsrItem, InFault>
-    requires { IsTrue ((D.outside desk.old).slot reader.old.slot).reads }
+    requires reads { IsTrue ((D.outside desk.old).slot reader.old.slot).reads }
+    requires bound { bound ≤ 2147483647 }
+    requires id { IsSmall id }
     ensures item { GivesDrop bound id (tokens_left form 2 1 reader.old (D.outside desk.old)) (tokens_left form 2 0 reader.new (D.outside desk.new)) result }
+    ensures small { IfOk result (λ x. IsSmallItem (item_of x)) }
     ensures pivot { IfOk result (λ x. ItemHasPivot (item_of x)) }
     ensures same { IsSameReader reader.old reader.new }
     ensures only { OnlyReads reader.old.slot (D.outside desk.old) (D.outside desk.new) }
@@ -45,7 +49,7 @@ pub(crate) fn read_drop<D: Desk>(
         if size == 0 {
             return Ok(LsrItem::Drop { id, ids });
         }
-        if ids.push(size).is_err() {
+        if push_with_room(alloc, &mut ids, size).is_err() {
             return Err(InFault::NoMemory);
         }
     }

@@ -1,15 +1,16 @@
 // The hints of a step: its prefix, and groups, each of which a negative number begins.
-ghost use Rattle.std.specs.Prelude.{◌≡◌, ◌≤◌, true, IsTrue, OnOk};
+ghost use Rattle.std.specs.Prelude.{◌≡◌, ◌≤◌, true, IsTrue, IfOk, OnOk, All};
 ghost use Rattle.sr_desk.specs.Outside.{OnlyReads};
 ghost use Rattle.sr_desk.specs.Next.{IsSameReader};
 ghost use Rattle.sr_lemma.specs.Left.{tokens_left};
 ghost use Rattle.sr_lemma.specs.Reads.{HasInCause};
 ghost use Rattle.sr_lsr.specs.Reads.{GivesRun, GivesHints, TakesSome};
 ghost use Rattle.sr_lsr.specs.Told.{run_told, open_told, hints_told};
+ghost use Rattle.sr_lsr.specs.Written.{IsSmall, IsSmallGroup};
 
 use sr_base::{Form, IdList, Items, LimitKind};
 use sr_desk::{ByteReader, Desk};
-use sr_lemma::{misplaced, next_token};
+use sr_lemma::{misplaced, next_token, push_with_room};
 use sr_model::Word;
 use sr_wit::{Group, GroupList, InFault};
 use std::alloc::Global;
@@ -36,8 +37,10 @@ fn read_run<D: Desk>(
     reader: &mut ByteReader,
     desk: &mut D,
 ) -> Result<Run, InFault>
-    requires { IsTrue ((D.outside desk.old).slot reader.old.slot).reads }
+    requires reads { IsTrue ((D.outside desk.old).slot reader.old.slot).reads }
+    requires bound { bound ≤ 2147483647 }
     ensures run { GivesRun bound (tokens_left form 2 1 reader.old (D.outside desk.old)) (tokens_left form 2 (open_told result) reader.new (D.outside desk.new)) (run_told result) }
+    ensures small { IfOk result (λ r. IsSmall r.next × All IsSmall r.hints) }
     ensures takes { OnOk result (TakesSome reader.old reader.new) }
     ensures same { IsSameReader reader.old reader.new }
     ensures only { OnlyReads reader.old.slot (D.outside desk.old) (D.outside desk.new) }
@@ -60,7 +63,7 @@ fn read_run<D: Desk>(
         if x <= 0 {
             return Ok(Run { hints, next: id });
         }
-        if hints.push(id).is_err() {
+        if push_with_room(alloc, &mut hints, id).is_err() {
             return Err(InFault::NoMemory);
         }
     }
@@ -74,8 +77,10 @@ pub(crate) fn read_hints<D: Desk>(
     reader: &mut ByteReader,
     desk: &mut D,
 ) -> Result<Hints, InFault>
-    requires { IsTrue ((D.outside desk.old).slot reader.old.slot).reads }
+    requires reads { IsTrue ((D.outside desk.old).slot reader.old.slot).reads }
+    requires bound { bound ≤ 2147483647 }
     ensures hints { GivesHints bound (tokens_left form 2 1 reader.old (D.outside desk.old)) (tokens_left form 2 0 reader.new (D.outside desk.new)) (hints_told result) }
+    ensures small { IfOk result (λ h. All IsSmall h.prefix × All IsSmallGroup h.groups) }
     ensures same { IsSameReader reader.old reader.new }
     ensures only { OnlyReads reader.old.slot (D.outside desk.old) (D.outside desk.new) }
     ensures cause { HasInCause reader.old.slot (D.outside desk.old) (D.outside desk.new) result }

@@ -8,6 +8,7 @@ ghost use Rattle.sr_wit.specs.LsrItems.{item_of};
 ghost use Rattle.sr_lemma.specs.Left.{tokens_left};
 ghost use Rattle.sr_lemma.specs.Reads.{HasInCause};
 ghost use Rattle.sr_lsr.specs.Reads.{GivesStepBehind, GivesNumbered, GivesLiteralsBehind, GivesBinaryStep, GivesItemBehind, GivesItem, TakesSome};
+ghost use Rattle.sr_lsr.specs.Written.{IsSmall, IsSmallItem};
 
 use crate::drops::read_drop;
 use crate::hints::read_hints;
@@ -30,8 +31,10 @@ fn read_step<D: Desk>(
     desk: &mut D,
     limits: &Limits,
 ) -> Result<LsrItem, InFault>
-    requires { IsTrue ((D.outside desk.old).slot reader.old.slot).reads }
+    requires reads { IsTrue ((D.outside desk.old).slot reader.old.slot).reads }
+    requires id { IsSmall id }
     ensures item { GivesStepBehind limits.now id first (tokens_left form 2 (open_after 2 2 first.word) reader.old (D.outside desk.old)) (tokens_left form 2 0 reader.new (D.outside desk.new)) result }
+    ensures small { IfOk result (λ x. IsSmallItem (item_of x)) }
     ensures pivot { IfOk result (λ x. ItemHasPivot (item_of x)) }
     ensures same { IsSameReader reader.old reader.new }
     ensures only { OnlyReads reader.old.slot (D.outside desk.old) (D.outside desk.new) }
@@ -52,8 +55,10 @@ fn read_numbered<D: Desk>(
     desk: &mut D,
     limits: &Limits,
 ) -> Result<LsrItem, InFault>
-    requires { IsTrue ((D.outside desk.old).slot reader.old.slot).reads }
+    requires reads { IsTrue ((D.outside desk.old).slot reader.old.slot).reads }
+    requires id { IsSmall id }
     ensures item { GivesNumbered limits.now id place (tokens_left Form.Text 2 2 reader.old (D.outside desk.old)) (tokens_left Form.Text 2 0 reader.new (D.outside desk.new)) result }
+    ensures small { IfOk result (λ x. IsSmallItem (item_of x)) }
     ensures pivot { IfOk result (λ x. ItemHasPivot (item_of x)) }
     ensures same { IsSameReader reader.old reader.new }
     ensures only { OnlyReads reader.old.slot (D.outside desk.old) (D.outside desk.new) }
@@ -89,6 +94,7 @@ fn text_item<D: Desk>(
     requires { IsTrue ((D.outside desk.old).slot reader.old.slot).reads }
     ensures item { GivesItemBehind Form.Text limits.now token (tokens_left Form.Text 2 (open_after 2 0 token.word) reader.old (D.outside desk.old)) (tokens_left Form.Text 2 0 reader.new (D.outside desk.new)) result }
     ensures some { IfOk result (λ o. OnSome o (token.word ≢ Word.End)) }
+    ensures small { IfOk result (λ o. IfSome o (λ x. IsSmallItem (item_of x))) }
     ensures pivot { IfOk result (λ o. IfSome o (λ x. ItemHasPivot (item_of x))) }
     ensures same { IsSameReader reader.old reader.new }
     ensures only { OnlyReads reader.old.slot (D.outside desk.old) (D.outside desk.new) }
@@ -118,8 +124,10 @@ fn read_binary_literals<D: Desk>(
     desk: &mut D,
     limits: &Limits,
 ) -> Result<LsrItem, InFault>
-    requires { IsTrue ((D.outside desk.old).slot reader.old.slot).reads }
+    requires reads { IsTrue ((D.outside desk.old).slot reader.old.slot).reads }
+    requires id { IsSmall id }
     ensures item { GivesLiteralsBehind limits.now id (tokens_left Form.Binary 2 2 reader.old (D.outside desk.old)) (tokens_left Form.Binary 2 0 reader.new (D.outside desk.new)) result }
+    ensures small { IfOk result (λ x. IsSmallItem (item_of x)) }
     ensures pivot { IfOk result (λ x. ItemHasPivot (item_of x)) }
     ensures same { IsSameReader reader.old reader.new }
     ensures only { OnlyReads reader.old.slot (D.outside desk.old) (D.outside desk.new) }
@@ -138,6 +146,7 @@ fn read_binary_step<D: Desk>(
 ) -> Result<LsrItem, InFault>
     requires { IsTrue ((D.outside desk.old).slot reader.old.slot).reads }
     ensures item { GivesBinaryStep limits.now (tokens_left Form.Binary 2 2 reader.old (D.outside desk.old)) (tokens_left Form.Binary 2 0 reader.new (D.outside desk.new)) result }
+    ensures small { IfOk result (λ x. IsSmallItem (item_of x)) }
     ensures pivot { IfOk result (λ x. ItemHasPivot (item_of x)) }
     ensures same { IsSameReader reader.old reader.new }
     ensures only { OnlyReads reader.old.slot (D.outside desk.old) (D.outside desk.new) }
@@ -171,6 +180,7 @@ fn binary_item<D: Desk>(
     requires { IsTrue ((D.outside desk.old).slot reader.old.slot).reads }
     ensures item { GivesItemBehind Form.Binary limits.now token (tokens_left Form.Binary 2 (open_after 2 0 token.word) reader.old (D.outside desk.old)) (tokens_left Form.Binary 2 0 reader.new (D.outside desk.new)) result }
     ensures some { IfOk result (λ o. OnSome o (token.word ≢ Word.End)) }
+    ensures small { IfOk result (λ o. IfSome o (λ x. IsSmallItem (item_of x))) }
     ensures pivot { IfOk result (λ o. IfSome o (λ x. ItemHasPivot (item_of x))) }
     ensures same { IsSameReader reader.old reader.new }
     ensures only { OnlyReads reader.old.slot (D.outside desk.old) (D.outside desk.new) }
@@ -194,7 +204,9 @@ fn binary_item<D: Desk>(
 }
 
 /// The next item of a proof by hints; none where only white space and comments are left (text) or nothing
-/// (binary). A step's witness has the first literal of its clause as its pivot.
+/// (binary). A step's witness has the first literal of its clause as its pivot, and [`item_bytes`] takes the item.
+///
+/// [`item_bytes`]: crate::item_bytes
 ///
 /// # Errors
 ///
@@ -212,6 +224,7 @@ pub fn next_item<D: Desk>(
     requires { IsTrue ((D.outside desk.old).slot reader.old.slot).reads }
     ensures item { GivesItem form limits.now (tokens_left form 2 0 reader.old (D.outside desk.old)) (tokens_left form 2 0 reader.new (D.outside desk.new)) result }
     ensures takes { IfOk result (λ o. OnSome o (TakesSome reader.old reader.new)) }
+    ensures small { IfOk result (λ o. IfSome o (λ x. IsSmallItem (item_of x))) }
     ensures pivot { IfOk result (λ o. IfSome o (λ x. ItemHasPivot (item_of x))) }
     ensures same { IsSameReader reader.old reader.new }
     ensures only { OnlyReads reader.old.slot (D.outside desk.old) (D.outside desk.new) }

@@ -7,6 +7,8 @@ mod hints;
 mod items;
 mod sizes;
 mod steps;
+#[cfg(test)]
+mod tests;
 mod write;
 
 pub use items::next_item;

@@ -36,11 +36,11 @@ returns-in_err-token-clause-literals g c =
     let fits : SFits w64 c.in-Number.x = search rules in
     let within : nat_abs c.in-Number.x ≤ c.args.bound = rw (to_z-of_z w64 c.in-Number.x fits) at c.in-Some.ensures.within in
     let named : number c.in-Some.l ≡ c.in-Number.x = rw (to_z-of_z w64 c.in-Number.x fits) at c.in-Some.ensures.number in
-    let pushed : c.push.new.self ≡ c.tokens.lits ++ c.in-Some.l ∷ [] = grind (arith, common_steps) in
-    let takes : TakesLiteral c.args.bound c.tokens.lits c.push.new.self c.tokens.token =
+    let pushed : c.push_with_room.new.list ≡ c.tokens.lits ++ c.in-Some.l ∷ [] = grind (arith, common_steps) in
+    let takes : TakesLiteral c.args.bound c.tokens.lits c.push_with_room.new.list c.tokens.token =
     record { value = c.in-Number.x; literal = c.in-Some.l; word_is = c.in-Number.is; some = some; within = within; named = named; pushed = pushed } in
     rw (p.1, p.2) (literals_stop c.args.form c.args.bound c.args.first c.args.reader.now c.tokens.reader c.next_token.new.reader (g.D.Desk.outside c.args.desk.now) (g.D.Desk.outside c.tokens.desk)
-    (g.D.Desk.outside c.next_token.new.desk) c.tokens.lits c.push.new.self c.tokens.token c.in_err-token.field-0.0 c.tokens.invariant.literals takes c.in_err-token.ensures.token)
+    (g.D.Desk.outside c.next_token.new.desk) c.tokens.lits c.push_with_room.new.list c.tokens.token c.in_err-token.field-0.0 c.tokens.invariant.literals takes c.in_err-token.ensures.token)
 
 pub tokens-preserved : goal.tokens-preserved
 tokens-preserved g c =
@@ -49,13 +49,13 @@ tokens-preserved g c =
     let within : nat_abs c.in-Number.x ≤ c.args.bound = rw (to_z-of_z w64 c.in-Number.x fits) at c.in-Some.ensures.within in
     let named : number c.in-Some.l ≡ c.in-Number.x = rw (to_z-of_z w64 c.in-Number.x fits) at c.in-Some.ensures.number in
     let named_so : c.in-Some.l ≡ literal_of c.in-Number.x = rw (to_z-of_z w64 c.in-Number.x fits) at c.in-Some.ensures.some in
-    let pushed : c.push.new.self ≡ c.tokens.lits ++ c.in-Some.l ∷ [] = grind (arith, common_steps) in
-    let takes : TakesLiteral c.args.bound c.tokens.lits c.push.new.self c.tokens.token =
+    let pushed : c.push_with_room.new.list ≡ c.tokens.lits ++ c.in-Some.l ∷ [] = grind (arith, common_steps) in
+    let takes : TakesLiteral c.args.bound c.tokens.lits c.push_with_room.new.list c.tokens.token =
     record { value = c.in-Number.x; literal = c.in-Some.l; word_is = c.in-Number.is; some = some; within = within; named = named; pushed = pushed } in
     record {
       literals = holds_more c.args.form c.args.bound c.args.first c.args.reader.now c.tokens.reader c.next_token.new.reader (g.D.Desk.outside c.args.desk.now) (g.D.Desk.outside c.tokens.desk)
-          (g.D.Desk.outside c.next_token.new.desk) c.tokens.lits c.push.new.self c.tokens.token c.in_ok-token.token c.tokens.invariant.literals takes c.in_ok-token.ensures.token;
-      named = named_more c.tokens.lits c.push.new.self c.in-Number.x c.in-Some.l c.tokens.invariant.named named_so named pushed;
+          (g.D.Desk.outside c.next_token.new.desk) c.tokens.lits c.push_with_room.new.list c.tokens.token c.in_ok-token.token c.tokens.invariant.literals takes c.in_ok-token.ensures.token;
+      named = named_more c.tokens.lits c.push_with_room.new.list c.in-Number.x c.in-Some.l c.tokens.invariant.named named_so named pushed;
       same = IsSameReader-trans c.tokens.invariant.same c.in_ok-token.ensures.same;
       only = OnlyReads-trans c.tokens.invariant.only (rw c.tokens.invariant.same.slot at c.in_ok-token.ensures.only);
     }

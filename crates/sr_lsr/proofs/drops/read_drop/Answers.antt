@@ -1,6 +1,9 @@
-use Rattle.std.proofs.Common.{rules, ◌≡◌, ◌++◌, ◌∷◌, [], ℤ, Ok, Err, subst, arith}
+use Rattle.std.proofs.Common.{rules, ◌≡◌, ◌++◌, ◌∷◌, [], ℤ, Ok, Err, subst, sym, arith}
 use Rattle.std.proofs.lemmas.Int.{to_z-of_z}
 use Rattle.std.proofs.lemmas.Grind.{common_steps}
+use Rattle.std.proofs.lemmas.List.Elements.{All-push}
+use Rattle.std.specs.List.{All}
+use Rattle.sr_lsr.specs.Written.{IsSmall}
 use Rattle.std.proofs.lemmas.Result.{err_from_is_err_and}
 use mir.Val.{SFits}
 use mir.Syntax.{w64}
@@ -45,11 +48,12 @@ pub tokens-preserved : goal.tokens-preserved
 tokens-preserved g c =
     let fits : SFits w64 c.in-Number.x = search rules in
     let is = subst (λ (x : ℤ). GivesSize x c.args.bound c.in_ok-token.token.place (Ok c.in_ok-size.size)) (to_z-of_z w64 c.in-Number.x fits) c.in_ok-size.ensures in
-    let pushed : c.push.new.self ≡ c.tokens.ids ++ c.in_ok-size.size ∷ [] = grind (arith, common_steps) in
+    let pushed : c.push_with_room.new.list ≡ c.tokens.ids ++ c.in_ok-size.size ∷ [] = grind (arith, common_steps) in
     record {
       ids = dropping_more c.args.form c.args.bound c.args.id c.args.reader.now c.tokens.reader c.next_token.new.reader (g.D.Desk.outside c.args.desk.now) (g.D.Desk.outside c.tokens.desk)
-          (g.D.Desk.outside c.next_token.new.desk) c.tokens.ids c.push.new.self c.in_ok-token.token c.in-Number.x c.in_ok-size.size
+          (g.D.Desk.outside c.next_token.new.desk) c.tokens.ids c.push_with_room.new.list c.in_ok-token.token c.in-Number.x c.in_ok-size.size
           c.tokens.invariant.ids (c.in_ok-token.ensures.token 2 1 (omega arith)) c.in-Number.is is.0 c.if-size-eq0.false is.1 pushed;
+      small = subst (All IsSmall) (sym pushed) (All-push IsSmall c.tokens.ids c.in_ok-size.size c.tokens.invariant.small (omega (arith, is.1, c.requires.bound)));
       same = IsSameReader-trans c.tokens.invariant.same c.in_ok-token.ensures.same;
       only = OnlyReads-trans c.tokens.invariant.only (rw c.tokens.invariant.same.slot at c.in_ok-token.ensures.only);
     }

@@ -1,8 +1,10 @@
-use Rattle.std.proofs.Common.{◌≡◌, ◌++◌, ◌∷◌, []}
+use Rattle.std.proofs.Common.{◌≡◌, ◌++◌, ◌∷◌, [], rules, subst, sym, arith}
 use Rattle.std.proofs.lemmas.Grind.{common_steps}
-use Rattle.std.proofs.Common.{arith}
+use Rattle.std.proofs.lemmas.List.Elements.{All-push}
+use Rattle.std.specs.List.{All}
 use Rattle.sr_desk.proofs.CallLemmas.{OnlyReads-trans}
 use Rattle.sr_lemma.proofs.NumberLemmas.{IsSameReader-trans}
+use Rattle.sr_lsr.specs.Written.{IsSmallGroup}
 use Rattle.sr_lsr.proofs.HintLemmas.{grouping_first, grouping_more}
 use Rattle.sr_lsr.proofs.hints.read_hints.Goals as goal
 
@@ -11,6 +13,9 @@ groups-init g c = record {
   hints = grouping_first c.args.form c.args.bound c.args.reader.now c.read_run.new.reader (g.D.Desk.outside c.args.desk.now) (g.D.Desk.outside c.read_run.new.desk)
       c.in_ok-first.first.hints c.new-groups.result c.in_ok-first.first.next c.in_ok-first.ensures.run c.new-groups.ensures;
   same = c.in_ok-first.ensures.same;
+  next = c.in_ok-first.ensures.small.0;
+  prefix = c.in_ok-first.ensures.small.1;
+  groups = rw c.new-groups.ensures (search rules);
   only = c.in_ok-first.ensures.only;
 }
 
@@ -21,6 +26,9 @@ groups-preserved g c =
       hints = grouping_more c.args.form c.args.bound c.args.reader.now c.groups.reader c.read_run-in-groups.new.reader (g.D.Desk.outside c.args.desk.now) (g.D.Desk.outside c.groups.desk)
           (g.D.Desk.outside c.read_run-in-groups.new.desk) c.in_ok-first.first.hints c.groups.groups c.push.new.self c.groups.id c.in_ok-rest.rest.hints c.in_ok-rest.rest.next
           c.groups.invariant.hints c.groups-test.true c.in_ok-rest.ensures.run pushed;
+      next = c.in_ok-rest.ensures.small.0;
+      prefix = c.groups.invariant.prefix;
+      groups = subst (All IsSmallGroup) (sym pushed) (All-push IsSmallGroup c.groups.groups (c.groups.id, c.in_ok-rest.rest.hints) c.groups.invariant.groups (c.groups.invariant.next, c.in_ok-rest.ensures.small.1));
       same = IsSameReader-trans c.groups.invariant.same c.in_ok-rest.ensures.same;
       only = OnlyReads-trans c.groups.invariant.only (rw c.groups.invariant.same.slot at c.in_ok-rest.ensures.only);
     }

@@ -1,7 +1,10 @@
-use Rattle.std.proofs.Common.{rules, pos, ◌≡◌, ◌++◌, ◌∷◌, ◌≤◌, ◌<◌, ◌≤ℤ◌, ◌<ℤ◌, [], arith}
+use Rattle.std.proofs.Common.{rules, pos, ◌≡◌, ◌++◌, ◌∷◌, ◌≤◌, ◌<◌, ◌≤ℤ◌, ◌<ℤ◌, [], subst, sym, arith}
 use Rattle.std.specs.Prelude.{nat_abs}
 use Rattle.std.proofs.lemmas.Int.{ints, to_z-of_z}
 use Rattle.std.proofs.lemmas.Grind.{common_steps}
+use Rattle.std.proofs.lemmas.List.Elements.{All-push}
+use Rattle.std.specs.List.{All}
+use Rattle.sr_lsr.specs.Written.{IsSmall}
 use Rattle.std.proofs.lemmas.Result.{err_from_is_err_and}
 use mir.Val.{SFits}
 use mir.Syntax.{w64}
@@ -49,11 +52,12 @@ tokens-preserved g c =
     let size : c.unsigned_abs-size.result ≡ nat_abs c.in-Number.x = rw (to_z-of_z w64 c.in-Number.x fits) at c.unsigned_abs-size.ensures.value in
     let within : nat_abs c.in-Number.x ≤ c.args.bound = omega (arith, size) in
     let up : pos 0 <ℤ c.in-Number.x = omega (arith, ints, c.if-x-le0.false) in
-    let pushed : c.push.new.self ≡ c.tokens.hints ++ c.unsigned_abs-size.result ∷ [] = grind (arith, common_steps) in
+    let pushed : c.push_with_room.new.list ≡ c.tokens.hints ++ c.unsigned_abs-size.result ∷ [] = grind (arith, common_steps) in
     record {
       run = running_more c.args.form c.args.bound c.args.reader.now c.tokens.reader c.next_token.new.reader (g.D.Desk.outside c.args.desk.now) (g.D.Desk.outside c.tokens.desk)
-          (g.D.Desk.outside c.next_token.new.desk) c.tokens.hints c.push.new.self c.in_ok-token.token c.in-Number.x c.unsigned_abs-size.result c.tokens.invariant.run
+          (g.D.Desk.outside c.next_token.new.desk) c.tokens.hints c.push_with_room.new.list c.in_ok-token.token c.in-Number.x c.unsigned_abs-size.result c.tokens.invariant.run
           (c.in_ok-token.ensures.token 2 1 (omega arith)) c.in-Number.is up size within pushed;
+      small = subst (All IsSmall) (sym pushed) (All-push IsSmall c.tokens.hints c.unsigned_abs-size.result c.tokens.invariant.small (omega (arith, size, within, c.requires.bound)));
       same = IsSameReader-trans c.tokens.invariant.same c.in_ok-token.ensures.same;
       only = OnlyReads-trans c.tokens.invariant.only (rw c.tokens.invariant.same.slot at c.in_ok-token.ensures.only);
     }

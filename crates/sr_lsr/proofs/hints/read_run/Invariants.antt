@@ -1,12 +1,15 @@
 use Rattle.std.proofs.Common.{◌-◌}
+use Rattle.std.specs.List.{All}
 use Rattle.sr_desk.specs.Outside.{OnlyReads}
 use Rattle.sr_desk.specs.Next.{IsSameReader}
+use Rattle.sr_lsr.specs.Written.{IsSmall}
 use Rattle.sr_lsr.proofs.HintLemmas.{Running}
 use Rattle.sr_lsr.proofs.hints.read_run.Given as goal
 
 abbrev pub invariant-tokens : goal.invariant-tokens
 invariant-tokens g l = record {
   run : Running l.form l.bound l.fn.reader l.reader (g.D.Desk.outside l.fn.desk) (g.D.Desk.outside l.desk) l.hints;
+  small : All IsSmall l.hints;
   same : IsSameReader l.fn.reader l.reader;
   only : OnlyReads l.fn.reader.slot (g.D.Desk.outside l.fn.desk) (g.D.Desk.outside l.desk);
 }

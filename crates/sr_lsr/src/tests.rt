@@ -1,0 +1,119 @@
+// Items of files in memory, read and written again.
+ghost use Rattle.std.specs.Prelude.{◌≡◌, true, IsTrue};
+ghost use Rattle.sr_wit.specs.LsrItems.{item_of};
+ghost use Rattle.sr_lsr.specs.Written.{IsSmallItem};
+
+use crate::{item_bytes, next_item};
+use sr_base::{ByteList, Form, Limits, TextKind};
+use sr_desk::{ByteReader, Desk, MemoryDesk};
+use sr_wit::{InFault, LsrItem};
+use std::alloc::Global;
+use std::test::Fail;
+
+/// Five lines: deletions, a step with a witness and groups, and steps by their prefix alone.
+const TEXT: &str =
+    "12 d 2 0\n13 -1 -1 2 -1 3 4 4 3 0 -4 3 -5 9 -6 10 -7 11 -8 12 -9 5 -10 6 -11 7 -12 8 0\n13 d 3 5 6 7 8 0\n14 5 0 13 1 4 9 10 0\n14 d 9 10 0\n15 0 13 1 4 14 11 12 0\n";
+
+/// The same items where deletions have no number.
+const UNNUMBERED: &str =
+    "0 d 2 0\n13 -1 -1 2 -1 3 4 4 3 0 -4 3 -5 9 -6 10 -7 11 -8 12 -9 5 -10 6 -11 7 -12 8 0\n0 d 3 5 6 7 8 0\n14 5 0 13 1 4 9 10 0\n0 d 9 10 0\n15 0 13 1 4 14 11 12 0\n";
+
+const BINARY: &[u8] =
+    b"d\x04\0a\x1a\x03\x03\x04\x03\x06\x08\x08\x06\0\x09\x06\x0b\x12\x0d\x14\x0f\x16\x11\x18\x13\x0a\x15\x0c\x17\x0e\x19\x10\0d\x06\x0a\x0c\x0e\x10\0a\x1c\x0a\0\x1a\x02\x08\x12\x14\0d\x12\x14\0a\x1e\0\x1a\x02\x08\x1c\x16\x18\0";
+
+fn add(alloc: Global, form: Form, item: &LsrItem, out: &mut ByteList) -> Result<(), InFault>
+    requires { IsSmallItem (item_of item.now) }
+{
+    match item_bytes(alloc, form, item) {
+        Ok(bytes) if out.extend(bytes.as_slice()).is_ok() => Ok(()),
+        _ => Err(InFault::NoMemory),
+    }
+}
+
+/// The items that a reader gives, written one after another.
+fn rewritten<D: Desk>(
+    alloc: Global,
+    forms: (Form, Form),
+    reader: &mut ByteReader,
+    desk: &mut D,
+) -> Result<ByteList, InFault>
+    requires { IsTrue ((D.outside desk.old).slot reader.old.slot).reads }
+{
+    let limits = Limits::shipped();
+    let mut out = ByteList::new(alloc);
+    'items: loop {
+        let Some(item) = next_item(alloc, forms.0, reader, desk, &limits)? else {
+            return Ok(out);
+        };
+        add(alloc, forms.1, &item, &mut out)?;
+    }
+}
+
+/// The items of a file in the first form, written in the second; at most `piece` bytes are read at once.
+fn answer(
+    alloc: Global,
+    forms: (Form, Form),
+    bytes: &[u8],
+    piece: usize,
+) -> Result<Result<ByteList, InFault>, Fail> {
+    let mut desk = MemoryDesk::new(alloc)?;
+    desk.put_file("p", bytes)?;
+    desk.piece(piece);
+    let slot = desk.begin_read("p")?;
+    let mut reader = ByteReader::new(alloc, slot, Limits::shipped().bytes())?;
+    Ok(rewritten(alloc, forms, &mut reader, &mut desk))
+}
+
+#[test]
+fn items_are_written_as_they_are_read(rt: HostRuntime) -> Result<(), Fail> {
+    let alloc = rt.alloc();
+    for piece in [1, 1000] {
+        for (forms, bytes, wanted) in [
+            ((Form::Text, Form::Text), TEXT.as_bytes(), TEXT.as_bytes()),
+            ((Form::Text, Form::Binary), TEXT.as_bytes(), BINARY),
+            ((Form::Binary, Form::Binary), BINARY, BINARY),
+            ((Form::Binary, Form::Text), BINARY, UNNUMBERED.as_bytes()),
+        ] {
+            let out = answer(alloc, forms, bytes, piece)?.map_err(|fault| Fail::new(format_args!(
+                "{fault:?}"
+            )))?;
+            assert!(rt; out.as_slice() == wanted);
+        }
+    }
+    Ok(())
+}
+
+#[test]
+fn faults_have_their_places(rt: HostRuntime) -> Result<(), Fail> {
+    let alloc = rt.alloc();
+    for piece in [1, 1000] {
+        for (form, bytes, kind, place) in [
+            (
+                Form::Text,
+                "5 1 1 -2 1 2 1 0 0\n".as_bytes(),
+                TextKind::Twice,
+                15,
+            ),
+            (
+                Form::Text,
+                "5 1 1 -2 1 2 0 0\n".as_bytes(),
+                TextKind::OddMap,
+                13,
+            ),
+            (Form::Text, "5 d -1 0\n".as_bytes(), TextKind::BadNumber, 4),
+            (Form::Text, "5 1 0 -2 3".as_bytes(), TextKind::Unended, 10),
+            (Form::Binary, b"a\0\0\0", TextKind::BadNumber, 1),
+            (Form::Binary, b"d\x02\x03\0", TextKind::BadNumber, 2),
+            (Form::Binary, b"a\x0a\0\x02", TextKind::Unended, 4),
+            (Form::Binary, b"d\0\n", TextKind::BadWord, 2),
+        ] {
+            match answer(alloc, (form, form), bytes, piece)? {
+                Err(InFault::Text { kind: k, place: p }) => {
+                    assert!(rt; k == kind && p == place);
+                }
+                _ => return Err(Fail::new(format_args!("{kind:?} at {place} is wanted"))),
+            }
+        }
+    }
+    Ok(())
+}
