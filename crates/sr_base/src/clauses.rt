@@ -60,13 +60,28 @@ impl Clause {
     }
 }
 
+/// Whether a list is short and no literal in it comes twice.
+pub fn is_short_clause(lits: &[Lit]) -> bool
+    ensures { IsTrue result → NoRepeats lits.now }
+{
+    if lits.len() > SHORT {
+        return false;
+    }
+    for (i, l) in lits.iter().enumerate() {
+        if holds(&lits[..i], *l) {
+            return false;
+        }
+    }
+    true
+}
+
 /// The distinct literals, each compared with those that were kept before it.
 #[tactic(auto, using(crate::proofs::Literals::distinct_push, crate::proofs::Literals::no_repeats_push))]
 fn distinct_by_pairs(alloc: Global, lits: &[Lit]) -> Result<LitList, NoMemory>
     ensures value { IfOk result (λ c. c ≡ distinct lits.now) }
     ensures distinct { IfOk result (λ c. NoRepeats c) }
 {
-    let mut kept = Items::new(alloc);
+    let mut kept = Items::with_capacity(alloc, lits.len())?;
     for l in lits {
         if !holds(kept.as_slice(), *l) {
             kept.push(*l)?;

@@ -7,7 +7,7 @@ mod lists;
 mod literal;
 mod names;
 
-pub use clauses::Clause;
+pub use clauses::{Clause, is_short_clause};
 pub use limits::Limits;
 pub use lists::{ByteList, IdList, Items, LitList, NoMemory};
 pub use literal::{Lit, MOST_VARS, holds};

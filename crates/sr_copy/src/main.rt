@@ -73,7 +73,12 @@ fn main(rt: HostRuntime) -> ExitCode {
     let alloc = rt.alloc();
     let mut desk = HostDesk::new(rt);
     match copy_file(
-        alloc, request.kind, request.from, request.to, request.name, &mut desk,
+        alloc,
+        request.kind,
+        request.from,
+        request.to,
+        request.name,
+        &mut desk,
     ) {
         Ok(()) => ExitCode::from(0),
         Err(CopyStop::Spelling) => ExitCode::from(3),

@@ -84,6 +84,7 @@ fn number_token(value: u128, place: u64) -> Result<Token, ScanStop>
 }
 
 /// The next number, read byte by byte.
+#[cold]
 #[inline(never)]
 fn number_item<D: Desk>(reader: &mut ByteReader, desk: &mut D) -> Result<Token, ScanStop>
     requires { IsTrue ((D.outside desk.old).slot reader.old.slot).reads }
@@ -123,7 +124,7 @@ fn ended(place: u64, end: u64) -> Result<Token, ScanStop>
 }
 
 /// The next number, where it is at hand; else nothing is taken.
-#[inline]
+#[inline(always)]
 fn number_at_hand(reader: &mut ByteReader) -> Option<Token>
     ensures some { IfSome result (TakesNumber reader.old reader.new) }
     ensures none { IfNone result (reader.new ≡ reader.old) }
@@ -191,6 +192,7 @@ fn item_start<D: Desk>(reader: &mut ByteReader, desk: &mut D) -> Result<Token, S
 /// its top bit set. `Unended`, with the number of bytes of the file, where it ends inside a number.
 /// [`ScanStop::Limit`] exactly where a byte past the reader's limit is needed and there is one.
 /// [`ScanStop::Fault`] only where a read failed. After an error the reader isn't used again.
+#[inline(always)]
 pub fn binary_item<D: Desk>(
     reader: &mut ByteReader,
     desk: &mut D,

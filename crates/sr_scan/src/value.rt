@@ -15,7 +15,7 @@ pub(crate) struct Value {
 const ROOM: u64 = 1 << 56;
 
 /// The place of the first byte that says that none follows.
-#[inline]
+#[inline(always)]
 fn last_byte(bytes: &[u8]) -> Option<usize>
     ensures { IfSome result (EndsAt bytes.now) }
 {
@@ -30,7 +30,7 @@ fn last_byte(bytes: &[u8]) -> Option<usize>
 }
 
 /// The value at the front, where it stands there whole.
-#[inline]
+#[inline(always)]
 pub(crate) fn value_front(bytes: &[u8]) -> Option<Value>
     ensures { IfSome result (λ v. LeadsValue bytes.now v.len v.value) }
 {

@@ -1,4 +1,5 @@
-use Rattle.sr_cnf.proofs.Plain.{distinct_same, distinct_within}
+use Rattle.sr_base.proofs.Plain.{distinct_same}
+use Rattle.sr_cnf.proofs.Plain.{distinct_within}
 use Rattle.sr_cnf.proofs.clause.push_clause.Goals as goal
 
 pub returns-then-is_short_clause-clause-ok : goal.returns-then-is_short_clause-clause-ok
