@@ -40,6 +40,7 @@ pub fn misplaced(word: &Word) -> TextKind
 /// `Text` where the token is malformed, with its place, and where a binary file ends inside a number.
 /// `Limit` exactly where a byte past the reader's limit is needed and there is one. `Source` only where a
 /// read failed. After an error the reader isn't used again.
+#[inline(always)]
 pub fn next_token<D: Desk>(
     form: Form,
     at_start: bool,

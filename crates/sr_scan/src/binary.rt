@@ -84,6 +84,7 @@ fn number_token(value: u128, place: u64) -> Result<Token, ScanStop>
 }
 
 /// The next number, read byte by byte.
+#[cold]
 #[inline(never)]
 fn number_item<D: Desk>(reader: &mut ByteReader, desk: &mut D) -> Result<Token, ScanStop>
     requires { IsTrue ((D.outside desk.old).slot reader.old.slot).reads }
@@ -158,6 +159,7 @@ fn item_token(byte: u8, place: u64) -> Result<Token, ScanStop>
 }
 
 /// The first byte of an item, or the end.
+#[inline(never)]
 fn item_start<D: Desk>(reader: &mut ByteReader, desk: &mut D) -> Result<Token, ScanStop>
     requires { IsTrue ((D.outside desk.old).slot reader.old.slot).reads }
     ensures advances { IfOk result (λ t. Advances reader.old reader.new t.word) }
@@ -191,6 +193,7 @@ fn item_start<D: Desk>(reader: &mut ByteReader, desk: &mut D) -> Result<Token, S
 /// its top bit set. `Unended`, with the number of bytes of the file, where it ends inside a number.
 /// [`ScanStop::Limit`] exactly where a byte past the reader's limit is needed and there is one.
 /// [`ScanStop::Fault`] only where a read failed. After an error the reader isn't used again.
+#[inline(always)]
 pub fn binary_item<D: Desk>(
     reader: &mut ByteReader,
     desk: &mut D,

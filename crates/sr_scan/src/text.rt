@@ -88,6 +88,8 @@ fn whole<D: Desk>(reader: &mut ByteReader, desk: &mut D, first: u8) -> Result<To
 }
 
 /// The next token, by the machine that reads byte by byte.
+#[cold]
+#[inline(never)]
 fn machine_item<D: Desk>(reader: &mut ByteReader, desk: &mut D) -> Result<Token, ScanStop>
     requires { IsTrue ((D.outside desk.old).slot reader.old.slot).reads }
     ensures advances { IfOk result (λ t. Advances reader.old reader.new t.word) }
@@ -107,7 +109,7 @@ fn machine_item<D: Desk>(reader: &mut ByteReader, desk: &mut D) -> Result<Token,
 }
 
 /// The next token, where it is at hand with the byte that ends it, and a number or `d`.
-#[inline]
+#[inline(always)]
 fn at_hand(reader: &mut ByteReader) -> Option<Token>
     ensures some { IfSome result (λ t. TakesToken reader.old reader.new t) }
     ensures none { IfNone result (reader.new ≡ reader.old) }
@@ -138,6 +140,7 @@ fn at_hand(reader: &mut ByteReader) -> Option<Token>
 /// is none, as `-0`, and `TooWide` for a number of a size above 2^63 - 1. [`ScanStop::Limit`]
 /// exactly where a byte past the reader's limit is needed and there is one. [`ScanStop::Fault`] only
 /// where a read failed. After an error the reader isn't used again.
+#[inline(always)]
 pub fn text_item<D: Desk>(reader: &mut ByteReader, desk: &mut D) -> Result<Token, ScanStop>
     requires { IsTrue ((D.outside desk.old).slot reader.old.slot).reads }
     ensures advances { IfOk result (λ t. Advances reader.old reader.new t.word) }
