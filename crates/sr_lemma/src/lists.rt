@@ -4,17 +4,19 @@ ghost use Rattle.std.specs.Prelude.{◌≡◌, [], ◌∷◌, ◌++◌, OnOk, On
 use sr_base::{Items, NoMemory};
 use std::alloc::Global;
 
-/// Room for so many items is taken with the first one: few lists are longer.
-const ROOM: usize = 8;
-
-/// Adds one item at the end. With the first one a list takes room for several.
+/// Adds one item at the end. With the first one a list takes room for so many.
 #[inline]
-pub fn push_with_room<T: Drop>(alloc: Global, list: &mut Items<T>, x: T) -> Result<(), NoMemory>
+pub fn push_with_room<T: Drop>(
+    alloc: Global,
+    room: usize,
+    list: &mut Items<T>,
+    x: T,
+) -> Result<(), NoMemory>
     ensures ok { OnOk result (list.new ≡ list.old ++ x ∷ []) }
     ensures err { OnErr result (list.new ≡ list.old) }
 {
     if list.as_slice().is_empty() {
-        *list = Items::with_capacity(alloc, ROOM)?;
+        *list = Items::with_capacity(alloc, room)?;
     }
     list.push(x)
 }

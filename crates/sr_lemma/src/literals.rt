@@ -14,6 +14,9 @@ use sr_model::{Token, Word};
 use sr_wit::InFault;
 use std::alloc::Global;
 
+/// Few lemmas have more literals. The list is gone once the lemma is made of it.
+const ROOM: usize = 64;
+
 /// Literals as they were read, and the place of the `0` that ends them.
 #[derive(Drop)]
 pub struct Literals {
@@ -76,7 +79,7 @@ pub fn read_literals<D: Desk>(
         let Some(l) = literal_within(x, bound) else {
             return Err(InFault::Limit(LimitKind::Vars));
         };
-        if push_with_room(alloc, &mut lits, l).is_err() {
+        if push_with_room(alloc, ROOM, &mut lits, l).is_err() {
             return Err(InFault::NoMemory);
         }
         token = next_token(form, false, reader, desk)?;

@@ -17,6 +17,9 @@ use sr_model::Word;
 use sr_wit::{InFault, LsrItem};
 use std::alloc::Global;
 
+/// Few deletions have more numbers.
+const ROOM: usize = 8;
+
 /// The deletion of the numbers up to `0`. The number in front of it is `id`.
 pub(crate) fn read_drop<D: Desk>(
     alloc: Global,
@@ -49,7 +52,7 @@ pub(crate) fn read_drop<D: Desk>(
         if size == 0 {
             return Ok(LsrItem::Drop { id, ids });
         }
-        if push_with_room(alloc, &mut ids, size).is_err() {
+        if push_with_room(alloc, ROOM, &mut ids, size).is_err() {
             return Err(InFault::NoMemory);
         }
     }

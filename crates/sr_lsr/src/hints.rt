@@ -15,6 +15,11 @@ use sr_model::Word;
 use sr_wit::{Group, GroupList, InFault};
 use std::alloc::Global;
 
+/// Few prefixes have more hints, and few groups.
+const PREFIX_ROOM: usize = 64;
+
+const GROUP_ROOM: usize = 4;
+
 /// Positive hints, and the clause number of the group that begins behind them; 0 where all hints end.
 #[derive(Drop)]
 struct Run {
@@ -29,9 +34,10 @@ pub(crate) struct Hints {
     pub(crate) groups: GroupList,
 }
 
-/// The hints up to a negative number or `0`.
+/// The hints up to a negative number or `0`. With the first one a list takes so much room.
 fn read_run<D: Desk>(
     alloc: Global,
+    room: usize,
     form: Form,
     bound: u32,
     reader: &mut ByteReader,
@@ -63,7 +69,7 @@ fn read_run<D: Desk>(
         if x <= 0 {
             return Ok(Run { hints, next: id });
         }
-        if push_with_room(alloc, &mut hints, id).is_err() {
+        if push_with_room(alloc, room, &mut hints, id).is_err() {
             return Err(InFault::NoMemory);
         }
     }
@@ -85,11 +91,11 @@ pub(crate) fn read_hints<D: Desk>(
     ensures only { OnlyReads reader.old.slot (D.outside desk.old) (D.outside desk.new) }
     ensures cause { HasInCause reader.old.slot (D.outside desk.old) (D.outside desk.new) result }
 {
-    let first = read_run(alloc, form, bound, reader, desk)?;
+    let first = read_run(alloc, PREFIX_ROOM, form, bound, reader, desk)?;
     let mut groups = Items::new(alloc);
     let mut id = first.next;
     'groups: while id != 0 {
-        let rest = read_run(alloc, form, bound, reader, desk)?;
+        let rest = read_run(alloc, GROUP_ROOM, form, bound, reader, desk)?;
         if groups.push(Group::new(id, rest.hints)).is_err() {
             return Err(InFault::NoMemory);
         }
