@@ -9,8 +9,11 @@ use std::alloc::Global;
 use std::collections::BTreeSet;
 use std::marker::Model;
 
-/// The longest list whose repeats are found by comparing its literals with one another.
-const SHORT: usize = 24;
+/// The longest list whose repeats are found by comparing literals with one another.
+const SHORT: usize = 256;
+
+/// How many literals are told apart at once, by their codes modulo this.
+const CLASSES: usize = 256;
 
 /// A clause: a list of literals without repeats.
 #[derive(Drop)]
@@ -34,8 +37,10 @@ impl Clause {
     pub fn from_lits(alloc: Global, lits: &[Lit]) -> Result<Clause, NoMemory>
         ensures { IfOk result (λ c. c ≡ distinct lits.now) }
     {
-        let lits = if lits.len() <= SHORT {
-            distinct_by_pairs(alloc, lits)?
+        let lits = if is_short_clause(lits) {
+            let mut kept = Items::with_capacity(alloc, lits.len())?;
+            kept.extend(lits)?;
+            kept
         } else {
             distinct_by_codes(alloc, lits)?
         };
@@ -60,34 +65,23 @@ impl Clause {
     }
 }
 
-/// Whether a list is short and no literal in it comes twice.
+/// Whether a list is short and no literal in it comes twice. A literal is compared with those before it only where one of
+/// them is of its class.
 pub fn is_short_clause(lits: &[Lit]) -> bool
     ensures { IsTrue result → NoRepeats lits.now }
 {
     if lits.len() > SHORT {
         return false;
     }
+    let mut met = [false; CLASSES];
     for (i, l) in lits.iter().enumerate() {
-        if holds(&lits[..i], *l) {
+        let class = l.code() as usize % CLASSES;
+        if met[class] && holds(&lits[..i], *l) {
             return false;
         }
+        met[class] = true;
     }
     true
-}
-
-/// The distinct literals, each compared with those that were kept before it.
-#[tactic(auto, using(crate::proofs::Literals::distinct_push, crate::proofs::Literals::no_repeats_push))]
-fn distinct_by_pairs(alloc: Global, lits: &[Lit]) -> Result<LitList, NoMemory>
-    ensures value { IfOk result (λ c. c ≡ distinct lits.now) }
-    ensures distinct { IfOk result (λ c. NoRepeats c) }
-{
-    let mut kept = Items::with_capacity(alloc, lits.len())?;
-    for l in lits {
-        if !holds(kept.as_slice(), *l) {
-            kept.push(*l)?;
-        }
-    }
-    Ok(kept)
 }
 
 /// The distinct literals, by a set of the codes of those that were kept.
