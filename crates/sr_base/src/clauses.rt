@@ -34,16 +34,14 @@ impl Model for Clause {
 
 impl Clause {
     /// The distinct literals in order of first occurrence. The time is n log n in the literals.
+    #[tactic(auto, using(crate::proofs::Plain::distinct_same))]
     pub fn from_lits(alloc: Global, lits: &[Lit]) -> Result<Clause, NoMemory>
         ensures { IfOk result (λ c. c ≡ distinct lits.now) }
     {
-        let lits = if is_short_clause(lits) {
-            let mut kept = Items::with_capacity(alloc, lits.len())?;
-            kept.extend(lits)?;
-            kept
-        } else {
-            distinct_by_codes(alloc, lits)?
-        };
+        if is_short_clause(lits) {
+            return copied(alloc, lits);
+        }
+        let lits = distinct_by_codes(alloc, lits)?;
         Ok(Clause { lits })
     }
 
@@ -63,6 +61,16 @@ impl Clause {
         let b = other.lits();
         includes(a, b) && includes(b, a)
     }
+}
+
+/// The clause of literals of which none comes twice.
+fn copied(alloc: Global, lits: &[Lit]) -> Result<Clause, NoMemory>
+    requires { NoRepeats lits.now }
+    ensures { IfOk result (λ c. c ≡ lits.now) }
+{
+    let mut kept = Items::with_capacity(alloc, lits.len())?;
+    kept.extend(lits)?;
+    Ok(Clause { lits: kept })
 }
 
 /// Whether a list is short and no literal in it comes twice. A literal is compared with those before it only where one of
