@@ -66,7 +66,7 @@ fn distinct_by_pairs(alloc: Global, lits: &[Lit]) -> Result<LitList, NoMemory>
     ensures value { IfOk result (λ c. c ≡ distinct lits.now) }
     ensures distinct { IfOk result (λ c. NoRepeats c) }
 {
-    let mut kept = Items::new(alloc);
+    let mut kept = Items::with_capacity(alloc, lits.len())?;
     for l in lits {
         if !holds(kept.as_slice(), *l) {
             kept.push(*l)?;
@@ -80,7 +80,7 @@ fn distinct_by_codes(alloc: Global, lits: &[Lit]) -> Result<LitList, NoMemory>
     ensures value { IfOk result (λ c. c ≡ distinct lits.now) }
     ensures distinct { IfOk result (λ c. NoRepeats c) }
 {
-    let mut kept = Items::new(alloc);
+    let mut kept = Items::with_capacity(alloc, lits.len())?;
     let mut seen: BTreeSet<u32> = BTreeSet::new(alloc);
     for l in lits {
         let Ok(is_new) = seen.insert(l.code()) else {
