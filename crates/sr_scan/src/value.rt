@@ -29,9 +29,52 @@ fn last_byte(bytes: &[u8]) -> Option<usize>
     None
 }
 
+/// A value of at most three bytes, as nearly all are.
+#[inline(always)]
+fn short_value(bytes: &[u8]) -> Option<Value>
+    ensures { IfSome result (λ v. LeadsValue bytes.now v.len v.value) }
+{
+    if bytes.len() < 3 {
+        return None;
+    }
+    let first = u64::from(bytes[0]);
+    if first < 128 {
+        return Some(Value {
+            len: 1,
+            value: first,
+        });
+    }
+    let second = u64::from(bytes[1]);
+    if second < 128 {
+        return Some(Value {
+            len: 2,
+            value: 128 * second + (first - 128),
+        });
+    }
+    let third = u64::from(bytes[2]);
+    if third < 128 {
+        return Some(Value {
+            len: 3,
+            value: 128 * (128 * third + (second - 128)) + (first - 128),
+        });
+    }
+    None
+}
+
 /// The value at the front, where it stands there whole.
 #[inline(always)]
 pub(crate) fn value_front(bytes: &[u8]) -> Option<Value>
+    ensures { IfSome result (λ v. LeadsValue bytes.now v.len v.value) }
+{
+    match short_value(bytes) {
+        Some(value) => Some(value),
+        None => long_value(bytes),
+    }
+}
+
+/// The value from its last byte on.
+#[inline(never)]
+fn long_value(bytes: &[u8]) -> Option<Value>
     ensures { IfSome result (λ v. LeadsValue bytes.now v.len v.value) }
 {
     let last = last_byte(bytes)?;

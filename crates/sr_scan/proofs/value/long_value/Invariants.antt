@@ -1,6 +1,6 @@
 use Rattle.std.proofs.Common.{◌≤◌, ◌<◌, ◌-◌, ◌+◌, ◌^◌, take, drop, ℕ, List, ◌≡◌, ◌++◌}
 use Rattle.sr_scan.specs.Binary.{value, value_at}
-use Rattle.sr_scan.proofs.value.value_front.Given as goal
+use Rattle.sr_scan.proofs.value.long_value.Given as goal
 
 -- the bytes from here to the last spell the value
 abbrev pub invariant-loop-at : goal.invariant-loop-at

@@ -1,6 +1,6 @@
 use Rattle.std.proofs.Common.{◌<◌, ◌-◌, arith, rules, get_or}
 use Rattle.sr_scan.proofs.ValueLemmas.{spelled_last, spelled_more, leads-value}
-use Rattle.sr_scan.proofs.value.value_front.Goals as goal
+use Rattle.sr_scan.proofs.value.long_value.Goals as goal
 
 pub loop-at-init : goal.loop-at-init
 loop-at-init c =
