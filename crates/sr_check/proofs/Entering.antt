@@ -3,15 +3,20 @@ use Rattle.std.proofs.Common.{◌≡◌, ◌≢◌, ◌⊎◌, inl, inr, ℕ, su
 use Rattle.std.proofs.lemmas.List.{length-append, length-set, get_or_append_left}
 use Rattle.std.proofs.Math.Seq.{get_or-append_seam}
 use Rattle.std.proofs.lemmas.Bool.Decides.{nat_tests}
-use Rattle.sr_base.specs.Literal.{Literal, literal_code, same}
+use Rattle.std.specs.Prelude.{filter, is_some}
+use Rattle.sr_base.specs.Literal.{Literal, literal_code, same, has}
 use Rattle.sr_base.specs.LiteralCode.{same_code}
 use Rattle.sr_base.proofs.Literals.{same_tells}
 use Rattle.sr_model.specs.Assignment.{holds_number}
-use Rattle.sr_model.specs.Chain.{Numbered}
+use Rattle.sr_model.specs.Chain.{Numbered, clause_of}
+use Rattle.sr_check.specs.Indexing.{IsLive}
+use Rattle.sr_check.specs.Numbers.{HoldsAll}
+use Rattle.sr_check.specs.Candidates.{HoldsWith}
 use Rattle.sr_check.specs.Occurring.{Occurring, head_at, list_at, numbers_under, under, AreLinked, SameNumbers, Enters, KeepsNumbers, IsUnder, AreUnder, KeepsListed}
 use Rattle.sr_check.proofs.Paging.{by_eq}
 use Rattle.sr_check.proofs.Marking.{by_test}
 use Rattle.sr_check.proofs.Dropping.{holds_push}
+use Rattle.sr_check.proofs.Numbering.{held_filter, all_held}
 
 -- the lists of places
 list_set : (ls : List (List ℕ)) (i p : ℕ) (x : List ℕ) → i < length ls → list_at (set ls i x) p ≡ cond (p == suc i) x (list_at ls p)
@@ -143,3 +148,54 @@ listed_push old new live n c built kept entered k b = are_push (under new) live 
 
 pub listed_limit : (old new : Occurring) (live : Numbered) → (new.built ≡ true → new ≡ old) → KeepsListed old live → KeepsListed new live
 listed_limit old new live same k b = let is : new ≡ old = same b in subst (λ (o : Occurring). AreUnder (under o) live) (sym is) (k (sym (ap (λ (o : Occurring). o.built) is) ∙ b))
+
+-- lists that lose the numbers of clauses that aren't live
+abbrev pub live_only : Numbered → List ℕ → List ℕ
+live_only live ns = filter (λ n. is_some (clause_of live n)) ns
+
+abbrev pub KeepsLive : Numbered → (Literal → List ℕ) → (Literal → List ℕ) → Type 0
+KeepsLive live old new = (l : Literal) (n : ℕ) → IsLive live n → holds_number n (old l) ≡ true → holds_number n (new l) ≡ true
+
+pub live_kept : (heads : List ℕ) (ls : List (List ℕ)) (i : ℕ) (live : Numbered) → i < length ls → KeepsLive live (numbers_under heads ls) (numbers_under heads (set ls i (live_only live (get_or ls i []))))
+live_kept heads ls i live h l n lives held = at (head_at heads (literal_code l)) held
+  where
+    at : (p : ℕ) → holds_number n (list_at ls p) ≡ true → holds_number n (list_at (set ls i (live_only live (get_or ls i []))) p) ≡ true
+    at p k = rw (list_set ls i p (live_only live (get_or ls i [])) h) (by_test (p == suc i)
+        (λ t. let is : p ≡ suc i = grind (arith, nat_tests) in rw t (held_filter (λ m. is_some (clause_of live m)) n (get_or ls i []) lives (rw is at k)))
+        (λ f. rw f k))
+
+-- the clauses of a part of the live ones are live
+live_head : (p : ℕ × List Literal) (ps : Numbered) → IsLive (p ∷ ps) p.0
+live_head p ps = let t : (p.0 == p.0) ≡ true = grind (arith, nat_tests) in rw t refl
+
+live_tail : (p : ℕ × List Literal) (ps : Numbered) (n : ℕ) → IsLive ps n → IsLive (p ∷ ps) n
+live_tail p ps n h = by_test (p.0 == n) (λ t. rw t refl) (λ f. rw f h)
+
+under_live : (old new : Literal → List ℕ) (live : Numbered) (n : ℕ) (ls : List Literal) → KeepsLive live old new → IsLive live n → IsUnder old n ls → IsUnder new n ls
+under_live old new live n [] k h u = tt
+under_live old new live n (l ∷ ls) k h u = (k l n h u.0, under_live old new live n ls k h u.1)
+
+pub are_live : (old new : Literal → List ℕ) (live ps : Numbered) → ((n : ℕ) → IsLive ps n → IsLive live n) → KeepsLive live old new → AreUnder old ps → AreUnder new ps
+are_live old new live [] part k u = tt
+are_live old new live (p ∷ ps) part k u = (under_live old new live p.0 p.1 k (part p.0 (live_head p ps)) u.0, are_live old new live ps (λ n h. part n (live_tail p ps n h)) k u.1)
+
+-- the clauses that hold a literal
+under_has : (lists : Literal → List ℕ) (n : ℕ) (ls : List Literal) (l : Literal) → IsUnder lists n ls → has l ls ≡ true → holds_number n (lists l) ≡ true
+under_has lists n [] l u h = absurd cc
+under_has lists n (k ∷ ls) l u h = by_test (same k l)
+    (λ t. let is : k ≡ l = grind (arith, same_tells k l) in subst (λ x. holds_number n (lists x) ≡ true) is u.0)
+    (λ f. under_has lists n ls l u.1 (grind (arith, h, f)))
+
+pub holds_with : (lists : Literal → List ℕ) (l : Literal) (ns : List ℕ) (live ps : Numbered) → ((n : ℕ) → IsLive ps n → IsLive live n) → ((n : ℕ) → IsLive live n → holds_number n (lists l) ≡ true → holds_number n ns ≡ true) → AreUnder lists ps → HoldsWith l ns ps
+holds_with lists l ns live [] part g u = tt
+holds_with lists l ns live (p ∷ ps) part g u = (λ h. g p.0 (part p.0 (live_head p ps)) (under_has lists p.0 p.1 l u.0 h), holds_with lists l ns live ps (λ n h. part n (live_tail p ps n h)) g u.1)
+
+pub gathered : (heads : List ℕ) (ls : List (List ℕ)) (l : Literal) (i : ℕ) (ns : List ℕ) (live : Numbered) → head_at heads (literal_code l) ≡ suc i → HoldsAll ns (live_only live (get_or ls i [])) → AreUnder (numbers_under heads ls) live → HoldsWith l ns live
+gathered heads ls l i ns live is all u = holds_with (numbers_under heads ls) l ns live live (λ n h. h)
+    (λ n h k. all_held ns (live_only live (get_or ls i [])) all n (held_filter (λ m. is_some (clause_of live m)) n (get_or ls i []) h (rw is at k))) u
+
+pub none_gathered : (heads : List ℕ) (ls : List (List ℕ)) (l : Literal) (ns : List ℕ) (live : Numbered) → head_at heads (literal_code l) ≡ 0 → AreUnder (numbers_under heads ls) live → HoldsWith l ns live
+none_gathered heads ls l ns live is u = holds_with (numbers_under heads ls) l ns live live (λ n h. h) (λ n h k. let c : false ≡ true = rw is at k in absurd cc) u
+
+pub kept_listed : (heads : List ℕ) (ls : List (List ℕ)) (i : ℕ) (live : Numbered) → i < length ls → AreUnder (numbers_under heads ls) live → AreUnder (numbers_under heads (set ls i (live_only live (get_or ls i [])))) live
+kept_listed heads ls i live h u = are_live (numbers_under heads ls) (numbers_under heads (set ls i (live_only live (get_or ls i [])))) live live (λ n k. k) (live_kept heads ls i live h) u

@@ -61,8 +61,3 @@ pub record AreListed (o : Occurring) (live : Numbered) : Type 0 where
 -- the lists have the clauses, if they are built
 abbrev pub KeepsListed : Occurring → Numbered → Type 0
 KeepsListed o live = o.built ≡ true → AreUnder (under o) live
-
--- the numbers in the lists of literals
-abbrev pub under_each : Occurring → List Literal → List ℕ
-under_each o [] = []
-under_each o (l ∷ ls) = under o l ++ under_each o ls

@@ -1,12 +1,16 @@
 // Lists of clause numbers by literal, by which the clauses are found that a witness touches. They are built when they are
-// first needed. The number of a clause that is dropped stays in its lists, so that a deletion touches none; where too many
-// have stayed, the lists are forgotten.
+// first needed. The number of a clause that is dropped stays in its lists until they are next read, so that a deletion
+// touches none; where too many may have stayed, the lists are forgotten.
 ghost use Rattle.std.specs.Prelude.{◌≡◌, ℕ, suc, ◌<◌, true, false, [], ◌∷◌, ◌++◌, length, slice_index_or, slice_set, OnOk, OnErr, IfOk};
 ghost use Rattle.sr_base.specs.Literal.{literal_code};
+ghost use Rattle.sr_check.specs.Numbers.{KeepsHeld};
+ghost use Rattle.sr_check.specs.Candidates.{HoldsWith};
 ghost use Rattle.sr_check.specs.Occurring.{head_at, numbers_under, under, AreLinked, SameNumbers, Enters, KeepsNumbers, IsUnder, AreListed, KeepsListed};
 
 use crate::live::LiveClauses;
-use sr_base::{IdList, Items, Lit, NoMemory};
+use crate::number_list::NumberList;
+use crate::number_set::NumberSet;
+use sr_base::{Lit, NoMemory};
 use std::alloc::Global;
 use std::marker::Model;
 
@@ -16,11 +20,13 @@ pub struct Occurrences {
     alloc: Global,
     built: bool,
     heads: Vec<u32>,
-    lists: Vec<IdList>,
+    lists: Vec<NumberList>,
     entered: u64,
 }
 
 impl Model for Occurrences {
+    ghost use Rattle.sr_check.specs.Numbers.{KeepsHeld};
+    ghost use Rattle.sr_check.specs.Candidates.{HoldsWith};
     ghost use Rattle.sr_check.specs.Occurring.{Occurring, AreLinked};
 
     ghost Value = { Occurring };
@@ -96,27 +102,42 @@ impl Occurrences {
         }
     }
 
-    /// Adds the numbers in the list of a literal.
-    pub fn gather(&self, l: Lit, numbers: &mut Vec<u32>) -> Result<(), NoMemory>
-        ensures { OnOk result (numbers.new.items ≡ numbers.old.items ++ under self.now l) }
+    /// Adds the numbers of the live clauses that hold a literal. Its list loses the numbers of others.
+    pub fn gather(
+        &mut self,
+        live: &LiveClauses,
+        l: Lit,
+        numbers: &mut NumberSet,
+    ) -> Result<(), NoMemory>
+        requires { AreListed self.old live.now }
+        ensures listed { AreListed self.new live.now }
+        ensures kept { KeepsHeld numbers.old numbers.new }
+        ensures ok { OnOk result (HoldsWith l numbers.new live.now) }
     {
-        let code = l.code() as usize;
-        if code >= self.heads.len() || self.heads[code] == 0 {
+        let head = head_of(&self.heads, l) as usize;
+        if head == 0 {
             return Ok(());
         }
-        let list = &self.lists[self.heads[code] as usize - 1];
-        match numbers.extend_from_slice(list.as_slice()) {
-            Ok(()) => Ok(()),
-            Err(_) => Err(NoMemory),
-        }
+        let list = &mut self.lists[head - 1];
+        list.keep_live(live);
+        numbers.add_all(list.as_slice())?;
+        Ok(())
     }
+}
+
+/// The place of a literal's list, from 1 on; 0 where it has none.
+fn head_of(heads: &[u32], l: Lit) -> u32
+    ensures { result ≡ head_at heads.now (literal_code l) }
+{
+    let code = l.code() as usize;
+    if code < heads.len() { heads[code] } else { 0 }
 }
 
 /// Enters a number in the lists of literals.
 fn enter_all(
     alloc: Global,
     heads: &mut Vec<u32>,
-    lists: &mut Vec<IdList>,
+    lists: &mut Vec<NumberList>,
     number: u32,
     lits: &[Lit],
 ) -> Result<(), NoMemory>
@@ -137,7 +158,7 @@ fn enter_all(
 fn open_list(
     alloc: Global,
     heads: &mut Vec<u32>,
-    lists: &mut Vec<IdList>,
+    lists: &mut Vec<NumberList>,
     l: Lit,
 ) -> Result<usize, NoMemory>
     requires { AreLinked heads.old.items lists.old.items }
@@ -155,7 +176,7 @@ fn open_list(
     if place >= u32::MAX as usize {
         return Err(NoMemory);
     }
-    let Ok(()) = lists.push(Items::new(alloc)) else {
+    let Ok(()) = lists.push(NumberList::new(alloc)) else {
         return Err(NoMemory);
     };
     heads[code] = place as u32 + 1;
@@ -177,7 +198,7 @@ fn reach(heads: &mut Vec<u32>, l: Lit) -> Result<(), NoMemory>
 
 /// Puts a number at the end of the list of a place.
 #[inline]
-fn push_number(lists: &mut Vec<IdList>, place: usize, number: u32) -> Result<(), NoMemory>
+fn push_number(lists: &mut Vec<NumberList>, place: usize, number: u32) -> Result<(), NoMemory>
     requires { place < length lists.old.items }
     ensures ok { OnOk result (lists.new.items ≡ slice_set lists.old.items place (slice_index_or lists.old.items place [] ++ number ∷ [])) }
     ensures err { OnErr result (lists.new.items ≡ lists.old.items) }
