@@ -1,7 +1,6 @@
 -- Lemmas on meeting the clauses of a list of numbers in place of all clauses.
-use Rattle.std.proofs.Common.{◌≡◌, ◌⊎◌, inl, inr, ℕ, suc, zero, ◌+◌, ◌-◌, ◌<◌, ◌≤◌, ◌==◌, Bool, true, false, ◌||◌, List, [], ◌∷◌, ◌++◌, length, get_or, take, refl, sym, ◌∙◌, ap, subst, arith, Option, Some, None}
+use Rattle.std.proofs.Common.{◌≡◌, ◌⊎◌, inl, inr, ℕ, suc, zero, ◌+◌, ◌<◌, ◌≤◌, ◌==◌, Bool, true, false, List, [], ◌∷◌, length, get_or, take, refl, ◌∙◌, subst, arith, Option, Some, None}
 use Rattle.std.specs.List.Sorted.{IsNonDecreasing}
-use Rattle.std.proofs.lemmas.List.{take_more}
 use Rattle.std.proofs.lemmas.Bool.Decides.{nat_tests}
 use Rattle.std.proofs.lemmas.Bool.{cases_lt}
 use Rattle.sr_base.specs.Literal.{Literal}
@@ -9,22 +8,13 @@ use Rattle.sr_base.specs.declared.names.Cause.{Cause}
 use Rattle.sr_model.specs.Assignment.{holds_number}
 use Rattle.sr_model.specs.Substitution.{Substitution, Reduction, untouched, satisfied, left, reduction}
 use Rattle.sr_model.specs.Chain.{Numbered, clause_of}
-use Rattle.sr_model.specs.Meeting.{Group, met, unmet, left_meets, all_left_meet}
-use Rattle.sr_check.specs.Candidates.{RiseFrom, AreRising, is_left, HoldsLeft, number_meets}
+use Rattle.sr_model.specs.Meeting.{Group, Meeting, met, unmet, both, left_meets, all_left_meet}
+use Rattle.sr_check.specs.Candidates.{RiseFrom, AreRising, is_left, HoldsLeft, number_meets, list_meets}
 use Rattle.sr_check.proofs.Marking.{by_test}
-use Rattle.sr_check.proofs.Dropping.{holds_push}
 
 -- the numbers of a list are met
 abbrev pub AreMet : Bool → Numbered → List Literal → Substitution → List Group → List ℕ → Type 0
 AreMet strict live b s gs ns = (n : ℕ) → holds_number n ns ≡ true → number_meets strict live b s gs n ≡ met
-
-pub met_more : (strict : Bool) (live : Numbered) (b : List Literal) (s : Substitution) (gs : List Group) (ns : List ℕ) (i n : ℕ) → i < length ns → n ≡ get_or ns i 0 → AreMet strict live b s gs (take i ns) → number_meets strict live b s gs n ≡ met → AreMet strict live b s gs (take (i + 1) ns)
-met_more strict live b s gs ns i n h is done now m held =
-    let more : take (i + 1) ns ≡ take i ns ++ n ∷ [] = take_more ns i 0 h ∙ ap (λ x. take i ns ++ x ∷ []) (sym is) in
-    let split : (holds_number m (take i ns) || (n == m)) ≡ true = sym (holds_push m n (take i ns)) ∙ ap (holds_number m) (sym more) ∙ held in
-    by_test (holds_number m (take i ns))
-    (λ t. done m t)
-    (λ f. let e : n ≡ m = grind (arith, nat_tests, split, f) in subst (λ k. number_meets strict live b s gs k ≡ met) e now)
 
 -- a number that stands before is held
 held_take : (ns : List ℕ) (i j : ℕ) → j < i → j < length ns → holds_number (get_or ns j 0) (take i ns) ≡ true
@@ -33,10 +23,42 @@ held_take (k ∷ ks) zero j h lt = absurd (omega arith)
 held_take (k ∷ ks) (suc i) zero h lt = let t : (k == k) ≡ true = grind (arith, nat_tests) in rw t refl
 held_take (k ∷ ks) (suc i) (suc j) h lt = let r : holds_number (get_or ks j 0) (take i ks) ≡ true = held_take ks i j (omega arith) (omega arith) in grind (arith, r)
 
--- a number that stands just before is met already
-pub met_again : (strict : Bool) (live : Numbered) (b : List Literal) (s : Substitution) (gs : List Group) (ns : List ℕ) (i n : ℕ) → 0 < i → i < length ns → n ≡ get_or ns i 0 → n ≡ get_or ns (i - 1) 0 → AreMet strict live b s gs (take i ns) → AreMet strict live b s gs (take (i + 1) ns)
-met_again strict live b s gs ns i n low h is again done =
-    met_more strict live b s gs ns i n h is done (done n (subst (λ k. holds_number k (take i ns) ≡ true) (sym again) (held_take ns i (i - 1) (omega arith) (omega arith))))
+-- numbers that are met one after another, and the first one that isn't
+met_both : (x y : Meeting) → both x y ≡ met → (x ≡ met) × (y ≡ met)
+met_both met y h = (refl, h)
+met_both (unmet c) y h = absurd cc
+
+pub met_each : (strict : Bool) (live : Numbered) (b : List Literal) (s : Substitution) (gs : List Group) (ns : List ℕ) → list_meets strict live b s gs ns ≡ met → AreMet strict live b s gs ns
+met_each strict live b s gs [] h n m = absurd cc
+met_each strict live b s gs (k ∷ ks) h n m =
+    let r = met_both (number_meets strict live b s gs k) (list_meets strict live b s gs ks) h in
+    by_test (k == n)
+    (λ t. let e : k ≡ n = grind (arith, nat_tests) in subst (λ i. number_meets strict live b s gs i ≡ met) e r.0)
+    (λ f. met_each strict live b s gs ks r.1 n (grind (arith, m, f)))
+
+-- where the first one stands
+record IsFirst (strict : Bool) (live : Numbered) (b : List Literal) (s : Substitution) (gs : List Group) (ns : List ℕ) (x : Cause) : Type 0 where
+  place : ℕ
+  within : place < length ns
+  before : AreMet strict live b s gs (take place ns)
+  here : number_meets strict live b s gs (get_or ns place 0) ≡ unmet x
+
+first_unmet : (strict : Bool) (live : Numbered) (b : List Literal) (s : Substitution) (gs : List Group) (ns : List ℕ) (x : Cause) → list_meets strict live b s gs ns ≡ unmet x → IsFirst strict live b s gs ns x
+first_unmet strict live b s gs [] x h = absurd cc
+first_unmet strict live b s gs (k ∷ ks) x h = at (first_unmet strict live b s gs ks x) (number_meets strict live b s gs k) refl
+  where
+    at : (list_meets strict live b s gs ks ≡ unmet x → IsFirst strict live b s gs ks x) → (m : Meeting) → number_meets strict live b s gs k ≡ m → IsFirst strict live b s gs (k ∷ ks) x
+    at later (unmet y) e = let same : unmet y ≡ unmet x = rw e at h in record { place = 0; within = omega arith; before = λ n i. absurd cc; here = e ∙ same }
+    at later met e =
+        let r : IsFirst strict live b s gs ks x = later (rw e at h) in
+        record {
+          place = suc r.place;
+          within = omega (arith, r.within);
+          before = λ n i. by_test (k == n)
+              (λ t. let is : k ≡ n = grind (arith, nat_tests) in subst (λ j. number_meets strict live b s gs j ≡ met) is e)
+              (λ f. r.before n (grind (arith, i, f)));
+          here = r.here;
+        }
 
 -- what is to be met of a clause is met, if something is left of it
 nothing_left : (strict : Bool) (live : Numbered) (b : List Literal) (gs : List Group) (n : ℕ) (r : Reduction) → (is_left r ≡ true → left_meets strict live b gs n r ≡ met) → left_meets strict live b gs n r ≡ met
@@ -116,3 +138,10 @@ one_unmet strict live b s gs ns i n x r holds sorted h is done bad = at (clause_
     at : (o : Option (List Literal)) → clause_of live n ≡ o → all_left_meet strict live b s gs live ≡ unmet x
     at None e = let c : met ≡ unmet x = rw (e, number_meets) at bad in absurd cc
     at (Some c) e = unmet_part strict live b s gs ns n x 0 live c r (λ m d g. g) holds (λ m lt held. done m (stands_before ns i n m sorted h is lt held)) e bad
+
+-- a sorted list of numbers stands for all clauses
+pub all_sorted : (strict : Bool) (live : Numbered) (b : List Literal) (s : Substitution) (gs : List Group) (ns : List ℕ) (m : Meeting) → AreRising live → HoldsLeft s ns live → IsNonDecreasing ns → list_meets strict live b s gs ns ≡ m → all_left_meet strict live b s gs live ≡ m
+all_sorted strict live b s gs ns met r holds sorted h = all_met strict live b s gs ns r holds (met_each strict live b s gs ns h)
+all_sorted strict live b s gs ns (unmet x) r holds sorted h =
+    let f : IsFirst strict live b s gs ns x = first_unmet strict live b s gs ns x h in
+    one_unmet strict live b s gs ns f.place (get_or ns f.place 0) x r holds sorted f.within refl f.before f.here

@@ -1,113 +1,109 @@
 -- Lemmas on lists of numbers by literal.
-use Rattle.std.proofs.Common.{◌≡◌, ◌≢◌, ◌⊎◌, inl, inr, ℕ, suc, zero, ◌+◌, ◌<◌, ◌≤◌, ◌==◌, true, false, List, [], ◌∷◌, ◌++◌, length, get_or, set, refl, sym, ◌∙◌, ap, subst, arith, get_or-set_same, get_or-set_other}
-use Rattle.std.proofs.lemmas.List.{length-append, length-set, get_or_append_left, get_or_past}
+use Rattle.std.proofs.Common.{◌≡◌, ◌≢◌, ◌⊎◌, inl, inr, ℕ, suc, zero, ◌+◌, ◌<◌, ◌≤◌, ◌==◌, true, false, cond, List, [], ◌∷◌, ◌++◌, length, get_or, set, refl, sym, ◌∙◌, ap, subst, arith, get_or-set_same, get_or-set_other}
+use Rattle.std.proofs.lemmas.List.{length-append, length-set, get_or_append_left}
 use Rattle.std.proofs.Math.Seq.{get_or-append_seam}
-use Rattle.std.proofs.lemmas.Bool.{cases_lt}
 use Rattle.std.proofs.lemmas.Bool.Decides.{nat_tests}
-use Rattle.sr_base.specs.Literal.{Literal, literal_code, same}
+use Rattle.std.specs.Prelude.{filter, is_some}
+use Rattle.sr_base.specs.Literal.{Literal, literal_code, same, has}
 use Rattle.sr_base.specs.LiteralCode.{same_code}
 use Rattle.sr_base.proofs.Literals.{same_tells}
 use Rattle.sr_model.specs.Assignment.{holds_number}
-use Rattle.sr_model.specs.Chain.{Numbered}
-use Rattle.sr_check.specs.declared.occurrences.Entry.{Entry}
-use Rattle.sr_check.specs.Occurring.{Occurring, under, KeepsListed, nothing, numbers_from, numbers_under, LeadBack, AreLinked, Enters, KeepsNumbers, IsUnder, AreUnder}
+use Rattle.sr_model.specs.Chain.{Numbered, clause_of}
+use Rattle.sr_check.specs.Indexing.{IsLive}
+use Rattle.sr_check.specs.Numbers.{HoldsAll}
+use Rattle.sr_check.specs.Candidates.{HoldsWith}
+use Rattle.sr_check.specs.Occurring.{Occurring, head_at, list_at, numbers_under, under, AreLinked, SameNumbers, Enters, KeepsNumbers, IsUnder, AreUnder, KeepsListed}
 use Rattle.sr_check.proofs.Paging.{by_eq}
 use Rattle.sr_check.proofs.Marking.{by_test}
+use Rattle.sr_check.proofs.Dropping.{holds_push}
+use Rattle.sr_check.proofs.Numbering.{held_filter, all_held}
 
--- a place is the last one that is looked at, or it isn't
-from_here : (es : List Entry) (k at : ℕ) → at ≡ suc k → numbers_from es (suc k) at ≡ (get_or es k nothing).number ∷ numbers_from es k (get_or es k nothing).next
-from_here es k at e = let t : (at == suc k) ≡ true = grind (arith, nat_tests) in rw t refl
+-- the lists of places
+list_set : (ls : List (List ℕ)) (i p : ℕ) (x : List ℕ) → i < length ls → list_at (set ls i x) p ≡ cond (p == suc i) x (list_at ls p)
+list_set ls i zero x h = let f : (0 == suc i) ≡ false = grind (arith, nat_tests) in rw f refl
+list_set ls i (suc p) x h = by_eq p i
+    (λ e. let t : (suc p == suc i) ≡ true = grind (arith, nat_tests) in rw t (rw e (get_or-set_same ls i x [] h)))
+    (λ n. let f : (suc p == suc i) ≡ false = grind (arith, nat_tests) in rw f (get_or-set_other ls i p x [] n))
 
-from_below : (es : List Entry) (k at : ℕ) → at ≤ k → numbers_from es (suc k) at ≡ numbers_from es k at
-from_below es k at h = let f : (at == suc k) ≡ false = grind (arith, nat_tests) in rw f refl
+-- an empty list more
+list_push : (ls : List (List ℕ)) (p : ℕ) → p ≤ length ls → list_at (ls ++ [] ∷ []) p ≡ list_at ls p
+list_push ls zero h = refl
+list_push ls (suc p) h = get_or_append_left ls ([] ∷ []) [] p (omega arith)
 
--- places above the first one are not come to
-pub from_within : (es : List Entry) (m k at : ℕ) → at ≤ k → k ≤ m → numbers_from es m at ≡ numbers_from es k at
-from_within es zero k at h le = let z : k ≡ 0 = omega arith in rw z refl
-from_within es (suc m) k at h le = by_eq k (suc m)
-    (λ e. rw e refl)
-    (λ n. from_below es m at (omega arith) ∙ from_within es m k at h (omega arith))
+length_push : (ls : List (List ℕ)) → length (ls ++ [] ∷ []) ≡ length ls + 1
+length_push ls = length-append ls ([] ∷ [])
 
--- the end, and one step of a walk
-pub from_end : (es : List Entry) (k : ℕ) → numbers_from es k 0 ≡ []
-from_end es zero = refl
-from_end es (suc k) = from_below es k 0 (omega arith) ∙ from_end es k
+last_list : (ls : List (List ℕ)) → list_at (ls ++ [] ∷ []) (suc (length ls)) ≡ []
+last_list ls = get_or-append_seam ls [] [] []
 
-pub from_step : (es : List Entry) (at i : ℕ) → LeadBack es → at ≡ i + 1 → at ≤ length es → numbers_from es (length es) at ≡ (get_or es i nothing).number ∷ numbers_from es (length es) (get_or es i nothing).next
-from_step es at i back e h =
-    from_within es (length es) (suc i) at (omega arith) (omega arith)
-    ∙ from_here es i at (omega arith)
-    ∙ ap (λ x. (get_or es i nothing).number ∷ x) (sym (from_within es (length es) i (get_or es i nothing).next (back i) (omega arith)))
+-- a head gets a list of its own
+opened_head : (heads : List ℕ) (ls : List (List ℕ)) (code place i : ℕ) → AreLinked heads ls → code < length heads → place ≡ length ls + 1 → i ≢ code → head_at (set heads code place) i ≡ place → ⊥
+opened_head heads ls code place i h room is other e = omega (arith, h.known i, ap (λ (n : ℕ). n) (sym (get_or-set_other heads code i place 0 other) ∙ e))
 
--- a new entry changes no list that begins at an older one
-from_push : (es : List Entry) (e : Entry) (k at : ℕ) → k ≤ length es → numbers_from (es ++ e ∷ []) k at ≡ numbers_from es k at
-from_push es e zero at h = refl
-from_push es e (suc k) at h =
-    let old : get_or (es ++ e ∷ []) k nothing ≡ get_or es k nothing = get_or_append_left es (e ∷ []) nothing k (omega arith) in
-    let rest : (a : ℕ) → numbers_from (es ++ e ∷ []) k a ≡ numbers_from es k a = λ a. from_push es e k a (omega arith) in
-    by_test (at == suc k)
-    (λ t. rw (t, old) (ap (λ x. (get_or es k nothing).number ∷ x) (rest (get_or es k nothing).next)))
-    (λ f. rw f (rest at))
-
-pub length_push : (es : List Entry) (e : Entry) → length (es ++ e ∷ []) ≡ length es + 1
-length_push es e = length-append es (e ∷ [])
-
-pub from_old : (es : List Entry) (e : Entry) (at : ℕ) → at ≤ length es → numbers_from (es ++ e ∷ []) (length (es ++ e ∷ [])) at ≡ numbers_from es (length es) at
-from_old es e at h = from_within (es ++ e ∷ []) (length (es ++ e ∷ [])) (length es) at h (omega (arith, length_push es e)) ∙ from_push es e (length es) at (omega arith)
-
-by_lt : {P : Type 0} (a b : ℕ) → (a < b → P) → (b ≤ a → P) → P
-by_lt {P} a b f g = at (cases_lt a b)
-  where
-    at : (a < b) ⊎ (b ≤ a) → P
-    at (inl h) = f h
-    at (inr h) = g h
-
--- entries lead back
-pub back_push : (es : List Entry) (e : Entry) → LeadBack es → e.next ≤ length es → LeadBack (es ++ e ∷ [])
-back_push es e back h i = by_lt i (length es)
-    (λ lt. rw (get_or_append_left es (e ∷ []) nothing i lt) (back i))
-    (λ ge. by_eq i (length es)
-    (λ is. rw is (rw (get_or-append_seam es e [] nothing) h))
-    (λ other. rw (get_or_past (es ++ e ∷ []) i nothing (omega (arith, length_push es e))) (omega arith)))
-
-pub linked_push : (heads : List ℕ) (es : List Entry) (e : Entry) (code place : ℕ) → AreLinked heads es → e.next ≤ length es → place ≡ length es + 1 → AreLinked (set heads code place) (es ++ e ∷ [])
-linked_push heads es e code place h next is = record {
-  back = back_push es e h.back next;
-  known = λ i. by_eq i code (λ same. at_code i same) (λ other. rw (get_or-set_other heads code i place 0 other) (omega (arith, h.known i, length_push es e)));
+pub linked_open : (heads : List ℕ) (ls : List (List ℕ)) (code place : ℕ) → AreLinked heads ls → code < length heads → place ≡ length ls + 1 → AreLinked (set heads code place) (ls ++ [] ∷ [])
+linked_open heads ls code place h room is = record {
+  known = λ i. by_eq i code
+      (λ e. rw e (rw (get_or-set_same heads code place 0 room) (omega (arith, length_push ls))))
+      (λ n. rw (get_or-set_other heads code i place 0 n) (omega (arith, h.known i, length_push ls)));
+  apart = λ i j e. by_eq i code
+      (λ ic. by_eq j code
+      (λ jc. inr (ic ∙ sym jc))
+      (λ jn. absurd (opened_head heads ls code place j h room is jn (sym e ∙ ap (head_at (set heads code place)) ic ∙ get_or-set_same heads code place 0 room))))
+      (λ n. by_eq j code
+      (λ jc. absurd (opened_head heads ls code place i h room is n (e ∙ ap (head_at (set heads code place)) jc ∙ get_or-set_same heads code place 0 room)))
+      (λ jn. both i j n jn e));
 }
   where
-    at_code : (i : ℕ) → i ≡ code → get_or (set heads code place) i 0 ≤ length (es ++ e ∷ [])
-    at_code i same = rw same (by_lt code (length heads)
-        (λ lt. rw (get_or-set_same heads code place 0 lt) (omega (arith, length_push es e)))
-        (λ ge. rw (get_or_past (set heads code place) code 0 (omega (arith, length-set heads code place))) (omega arith)))
+    both : (i j : ℕ) → i ≢ code → j ≢ code → head_at (set heads code place) i ≡ head_at (set heads code place) j → (head_at (set heads code place) i ≡ 0) ⊎ (i ≡ j)
+    both i j n jn e =
+        let a : head_at (set heads code place) i ≡ head_at heads i = get_or-set_other heads code i place 0 n in
+        let b : head_at (set heads code place) j ≡ head_at heads j = get_or-set_other heads code j place 0 jn in
+        rw a (h.apart i j (sym a ∙ e ∙ b))
 
--- a number is entered
-pub enters : (heads : List ℕ) (es : List Entry) (l : Literal) (n next place : ℕ) → AreLinked heads es → literal_code l < length heads → next ≡ get_or heads (literal_code l) 0 → place ≡ length es + 1
-    → Enters (numbers_under heads es) (numbers_under (set heads (literal_code l) place) (es ++ record { number = n; next = next } ∷ [])) l n
-enters heads es l n next place h room is at k = by_test (same l k) (λ t. rw t (here t)) (λ f. rw f (there f))
+pub same_open : (heads : List ℕ) (ls : List (List ℕ)) (code place : ℕ) → AreLinked heads ls → code < length heads → head_at heads code ≡ 0 → place ≡ length ls + 1 → SameNumbers (numbers_under heads ls) (numbers_under (set heads code place) (ls ++ [] ∷ []))
+same_open heads ls code place h room free is l = by_eq (literal_code l) code
+    (λ e. rw e (rw (get_or-set_same heads code place 0 room, free) (let at : place ≡ suc (length ls) = omega arith in rw at (last_list ls))))
+    (λ n. rw (get_or-set_other heads code (literal_code l) place 0 n) (list_push ls (head_at heads (literal_code l)) (h.known (literal_code l))))
+
+-- a number is put at the end of the list of a literal
+pub linked_set : (heads : List ℕ) (ls : List (List ℕ)) (i : ℕ) (x : List ℕ) → AreLinked heads ls → AreLinked heads (set ls i x)
+linked_set heads ls i x h = record { known = λ k. omega (arith, h.known k, length-set ls i x); apart = h.apart }
+
+pub enters : (heads : List ℕ) (ls : List (List ℕ)) (l : Literal) (place n : ℕ) → AreLinked heads ls → head_at heads (literal_code l) ≡ suc place → Enters (numbers_under heads ls) (numbers_under heads (set ls place (get_or ls place [] ++ n ∷ []))) l n
+enters heads ls l place n h is k = by_test (same l k) (λ t. rw t (here t)) (λ f. rw f (there f))
   where
-    e : Entry
-    e = record { number = n; next = next }
+    within : place < length ls
+    within = omega (arith, h.known (literal_code l))
 
-    here : same l k ≡ true → numbers_under (set heads (literal_code l) place) (es ++ e ∷ []) k ≡ n ∷ numbers_under heads es k
+    set_is : (p : ℕ) → list_at (set ls place (get_or ls place [] ++ n ∷ [])) p ≡ cond (p == suc place) (get_or ls place [] ++ n ∷ []) (list_at ls p)
+    set_is p = list_set ls place p (get_or ls place [] ++ n ∷ []) within
+
+    here : same l k ≡ true → numbers_under heads (set ls place (get_or ls place [] ++ n ∷ [])) k ≡ numbers_under heads ls k ++ n ∷ []
     here t =
         let one : l ≡ k = grind (arith, same_tells l k) in
-        subst (λ j. numbers_under (set heads (literal_code l) place) (es ++ e ∷ []) j ≡ n ∷ numbers_under heads es j) one
-        (rw (get_or-set_same heads (literal_code l) place 0 room)
-        (from_step (es ++ e ∷ []) place (length es) (back_push es e h.back (omega (arith, h.known (literal_code l)))) at (omega (arith, length_push es e))
-        ∙ rw (get_or-append_seam es e [] nothing) (ap (λ x. n ∷ x) (from_old es e next (omega (arith, h.known (literal_code l))) ∙ ap (numbers_from es (length es)) is))))
+        let q : (suc place == suc place) ≡ true = grind (arith, nat_tests) in
+        subst (λ j. numbers_under heads (set ls place (get_or ls place [] ++ n ∷ [])) j ≡ numbers_under heads ls j ++ n ∷ []) one
+        (rw is (set_is (suc place) ∙ rw q refl))
 
-    there : same l k ≡ false → numbers_under (set heads (literal_code l) place) (es ++ e ∷ []) k ≡ numbers_under heads es k
+    there : same l k ≡ false → numbers_under heads (set ls place (get_or ls place [] ++ n ∷ [])) k ≡ numbers_under heads ls k
     there f =
-        let ne : literal_code k ≢ literal_code l = λ c. let one : k ≡ l = same_code k l c in grind (arith, same_tells l k) in
-        rw (get_or-set_other heads (literal_code l) (literal_code k) place 0 ne) (from_old es e (get_or heads (literal_code k) 0) (h.known (literal_code k)))
+        let ne : head_at heads (literal_code k) ≢ suc place = λ e. other f (h.apart (literal_code k) (literal_code l) (e ∙ sym is)) (sym e) in
+        let q : (head_at heads (literal_code k) == suc place) ≡ false = grind (arith, nat_tests) in
+        set_is (head_at heads (literal_code k)) ∙ rw q refl
+      where
+        other : same l k ≡ false → (head_at heads (literal_code k) ≡ 0) ⊎ (literal_code k ≡ literal_code l) → suc place ≡ head_at heads (literal_code k) → ⊥
+        other f (inl z) e = omega (arith, z, e)
+        other f (inr c) e = let one : k ≡ l = same_code k l c in let t : same l k ≡ true = grind (arith, same_tells l k) in let w : true ≡ false = sym t ∙ f in cc
 
--- lists whose heads are put into a longer table
-pub same_heads : (heads heads' : List ℕ) (es : List Entry) → ((i : ℕ) → get_or heads' i 0 ≡ get_or heads i 0) → (l : Literal) → numbers_under heads' es l ≡ numbers_under heads es l
-same_heads heads heads' es same l = ap (numbers_from es (length es)) (same (literal_code l))
+-- heads that are put into a longer table
+pub same_heads : (heads heads' : List ℕ) (ls : List (List ℕ)) → ((i : ℕ) → head_at heads' i ≡ head_at heads i) → SameNumbers (numbers_under heads ls) (numbers_under heads' ls)
+same_heads heads heads' ls same l = ap (list_at ls) (same (literal_code l))
 
-pub linked_heads : (heads heads' : List ℕ) (es : List Entry) → ((i : ℕ) → get_or heads' i 0 ≡ get_or heads i 0) → AreLinked heads es → AreLinked heads' es
-linked_heads heads heads' es same h = record { back = h.back; known = λ i. rw (same i) (h.known i) }
+pub linked_heads : (heads heads' : List ℕ) (ls : List (List ℕ)) → ((i : ℕ) → head_at heads' i ≡ head_at heads i) → AreLinked heads ls → AreLinked heads' ls
+linked_heads heads heads' ls same h = record {
+  known = λ i. rw (same i) (h.known i);
+  apart = λ i j e. rw (same i) (h.apart i j (sym (same i) ∙ e ∙ same j));
+}
 
 -- numbers that stay
 pub keeps_same : (old new : Literal → List ℕ) → ((l : Literal) → new l ≡ old l) → KeepsNumbers old new
@@ -118,14 +114,14 @@ keeps_then old now new f g l n h = g l n (f l n h)
 
 pub keeps_enters : (old new : Literal → List ℕ) (l : Literal) (n : ℕ) → Enters old new l n → KeepsNumbers old new
 keeps_enters old new l n e k m h = by_test (same l k)
-    (λ t. let is : new k ≡ n ∷ old k = e k ∙ rw t refl in rw is (grind (arith, h)))
+    (λ t. let is : new k ≡ old k ++ n ∷ [] = e k ∙ rw t refl in rw is (grind (arith, h, holds_push m n (old k))))
     (λ f. let is : new k ≡ old k = e k ∙ rw f refl in rw is h)
 
 pub under_enters : (old new : Literal → List ℕ) (l : Literal) (n : ℕ) → Enters old new l n → holds_number n (new l) ≡ true
 under_enters old new l n e =
     let t : same l l ≡ true = grind (arith, same_tells l l) in
-    let is : new l ≡ n ∷ old l = e l ∙ rw t refl in
-    rw is (grind (arith, nat_tests))
+    let is : new l ≡ old l ++ n ∷ [] = e l ∙ rw t refl in
+    rw is (grind (arith, nat_tests, holds_push n n (old l)))
 
 pub under_more : (old new : Literal → List ℕ) (n : ℕ) (ls : List Literal) → KeepsNumbers old new → IsUnder old n ls → IsUnder new n ls
 under_more old new n [] k h = tt
@@ -152,3 +148,54 @@ listed_push old new live n c built kept entered k b = are_push (under new) live 
 
 pub listed_limit : (old new : Occurring) (live : Numbered) → (new.built ≡ true → new ≡ old) → KeepsListed old live → KeepsListed new live
 listed_limit old new live same k b = let is : new ≡ old = same b in subst (λ (o : Occurring). AreUnder (under o) live) (sym is) (k (sym (ap (λ (o : Occurring). o.built) is) ∙ b))
+
+-- lists that lose the numbers of clauses that aren't live
+abbrev pub live_only : Numbered → List ℕ → List ℕ
+live_only live ns = filter (λ n. is_some (clause_of live n)) ns
+
+abbrev pub KeepsLive : Numbered → (Literal → List ℕ) → (Literal → List ℕ) → Type 0
+KeepsLive live old new = (l : Literal) (n : ℕ) → IsLive live n → holds_number n (old l) ≡ true → holds_number n (new l) ≡ true
+
+pub live_kept : (heads : List ℕ) (ls : List (List ℕ)) (i : ℕ) (live : Numbered) → i < length ls → KeepsLive live (numbers_under heads ls) (numbers_under heads (set ls i (live_only live (get_or ls i []))))
+live_kept heads ls i live h l n lives held = at (head_at heads (literal_code l)) held
+  where
+    at : (p : ℕ) → holds_number n (list_at ls p) ≡ true → holds_number n (list_at (set ls i (live_only live (get_or ls i []))) p) ≡ true
+    at p k = rw (list_set ls i p (live_only live (get_or ls i [])) h) (by_test (p == suc i)
+        (λ t. let is : p ≡ suc i = grind (arith, nat_tests) in rw t (held_filter (λ m. is_some (clause_of live m)) n (get_or ls i []) lives (rw is at k)))
+        (λ f. rw f k))
+
+-- the clauses of a part of the live ones are live
+live_head : (p : ℕ × List Literal) (ps : Numbered) → IsLive (p ∷ ps) p.0
+live_head p ps = let t : (p.0 == p.0) ≡ true = grind (arith, nat_tests) in rw t refl
+
+live_tail : (p : ℕ × List Literal) (ps : Numbered) (n : ℕ) → IsLive ps n → IsLive (p ∷ ps) n
+live_tail p ps n h = by_test (p.0 == n) (λ t. rw t refl) (λ f. rw f h)
+
+under_live : (old new : Literal → List ℕ) (live : Numbered) (n : ℕ) (ls : List Literal) → KeepsLive live old new → IsLive live n → IsUnder old n ls → IsUnder new n ls
+under_live old new live n [] k h u = tt
+under_live old new live n (l ∷ ls) k h u = (k l n h u.0, under_live old new live n ls k h u.1)
+
+pub are_live : (old new : Literal → List ℕ) (live ps : Numbered) → ((n : ℕ) → IsLive ps n → IsLive live n) → KeepsLive live old new → AreUnder old ps → AreUnder new ps
+are_live old new live [] part k u = tt
+are_live old new live (p ∷ ps) part k u = (under_live old new live p.0 p.1 k (part p.0 (live_head p ps)) u.0, are_live old new live ps (λ n h. part n (live_tail p ps n h)) k u.1)
+
+-- the clauses that hold a literal
+under_has : (lists : Literal → List ℕ) (n : ℕ) (ls : List Literal) (l : Literal) → IsUnder lists n ls → has l ls ≡ true → holds_number n (lists l) ≡ true
+under_has lists n [] l u h = absurd cc
+under_has lists n (k ∷ ls) l u h = by_test (same k l)
+    (λ t. let is : k ≡ l = grind (arith, same_tells k l) in subst (λ x. holds_number n (lists x) ≡ true) is u.0)
+    (λ f. under_has lists n ls l u.1 (grind (arith, h, f)))
+
+pub holds_with : (lists : Literal → List ℕ) (l : Literal) (ns : List ℕ) (live ps : Numbered) → ((n : ℕ) → IsLive ps n → IsLive live n) → ((n : ℕ) → IsLive live n → holds_number n (lists l) ≡ true → holds_number n ns ≡ true) → AreUnder lists ps → HoldsWith l ns ps
+holds_with lists l ns live [] part g u = tt
+holds_with lists l ns live (p ∷ ps) part g u = (λ h. g p.0 (part p.0 (live_head p ps)) (under_has lists p.0 p.1 l u.0 h), holds_with lists l ns live ps (λ n h. part n (live_tail p ps n h)) g u.1)
+
+pub gathered : (heads : List ℕ) (ls : List (List ℕ)) (l : Literal) (i : ℕ) (ns : List ℕ) (live : Numbered) → head_at heads (literal_code l) ≡ suc i → HoldsAll ns (live_only live (get_or ls i [])) → AreUnder (numbers_under heads ls) live → HoldsWith l ns live
+gathered heads ls l i ns live is all u = holds_with (numbers_under heads ls) l ns live live (λ n h. h)
+    (λ n h k. all_held ns (live_only live (get_or ls i [])) all n (held_filter (λ m. is_some (clause_of live m)) n (get_or ls i []) h (rw is at k))) u
+
+pub none_gathered : (heads : List ℕ) (ls : List (List ℕ)) (l : Literal) (ns : List ℕ) (live : Numbered) → head_at heads (literal_code l) ≡ 0 → AreUnder (numbers_under heads ls) live → HoldsWith l ns live
+none_gathered heads ls l ns live is u = holds_with (numbers_under heads ls) l ns live live (λ n h. h) (λ n h k. let c : false ≡ true = rw is at k in absurd cc) u
+
+pub kept_listed : (heads : List ℕ) (ls : List (List ℕ)) (i : ℕ) (live : Numbered) → i < length ls → AreUnder (numbers_under heads ls) live → AreUnder (numbers_under heads (set ls i (live_only live (get_or ls i [])))) live
+kept_listed heads ls i live h u = are_live (numbers_under heads ls) (numbers_under heads (set ls i (live_only live (get_or ls i [])))) live live (λ n k. k) (live_kept heads ls i live h) u

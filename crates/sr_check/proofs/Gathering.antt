@@ -1,9 +1,6 @@
 -- Lemmas on the clauses of which a witness may leave something.
 use Rattle.std.proofs.Common.{◌≡◌, ℕ, ◌==◌, Bool, true, false, not, ◌||◌, ◌&&◌, List, [], ◌∷◌, ◌++◌, map, refl, sym, ◌∙◌, ap, subst, arith}
 use Rattle.std.specs.List.{list_any}
-use Rattle.std.specs.List.Sorted.{IsPermutation}
-use Rattle.std.proofs.lemmas.List.{append_assoc}
-use Rattle.std.proofs.lemmas.List.Sorted.{list_any-IsPermutation}
 use Rattle.std.proofs.lemmas.Bool.Decides.{nat_tests}
 use Rattle.sr_base.specs.Literal.{Literal, plus, minus, variable, complement, compl, same, has}
 use Rattle.sr_base.proofs.Literals.{same_tells, has_append}
@@ -12,13 +9,9 @@ use Rattle.sr_model.specs.declared.images.Image.TheVariants.{To}
 use Rattle.sr_model.specs.Assignment.{holds_number}
 use Rattle.sr_model.specs.Substitution.{Substitution, Witness, substitution, made_true, sent, image, is_image, is_yes, is_touched, is_satisfied, reduction}
 use Rattle.sr_model.specs.Chain.{Numbered}
-use Rattle.sr_check.specs.Occurring.{Occurring, under, IsUnder, AreUnder, under_each}
-use Rattle.sr_check.specs.Candidates.{is_left, HoldsLeft, sent_literals, moved_literals}
+use Rattle.sr_check.specs.Numbers.{KeepsHeld}
+use Rattle.sr_check.specs.Candidates.{is_left, HoldsLeft, HoldsWith, HoldsEach, sent_literals, moved_literals}
 use Rattle.sr_check.proofs.Marking.{by_test}
-
-pub under_append : (o : Occurring) (xs ys : List Literal) → under_each o (xs ++ ys) ≡ under_each o xs ++ under_each o ys
-under_append o [] ys = refl
-under_append o (x ∷ xs) ys = ap (λ z. under o x ++ z) (under_append o xs ys) ∙ sym (append_assoc (under o x) (under_each o xs) (under_each o ys))
 
 -- whether a literal becomes false or another literal
 abbrev moves : Image → Literal → Bool
@@ -121,33 +114,47 @@ moved_has w l h =
     (λ n. grind (arith, split, two, n)))
     (λ n. grind (arith, one, n))
 
--- numbers under the literals of a list
-holds_append : (n : ℕ) (xs ys : List ℕ) → holds_number n (xs ++ ys) ≡ (holds_number n xs || holds_number n ys)
-holds_append n [] ys = refl
-holds_append n (x ∷ xs) ys = grind (arith, holds_append n xs ys)
+-- the clauses that hold one of the literals
+each_head : (ls : List Literal) (l : Literal) (ns : List ℕ) (p : ℕ × List Literal) (ps : Numbered) → HoldsEach ls ns (p ∷ ps) → has l ls ≡ true → has l p.1 ≡ true → holds_number p.0 ns ≡ true
+each_head [] l ns p ps h m i = absurd cc
+each_head (k ∷ ls) l ns p ps h m i = by_test (same k l)
+    (λ t. let is : l ≡ k = grind (arith, same_tells k l) in h.0.0 (subst (λ x. has x p.1 ≡ true) is i))
+    (λ f. each_head ls l ns p ps h.1 (grind (arith, m, f)) i)
 
-holds_each : (o : Occurring) (ls : List Literal) (l : Literal) (n : ℕ) → has l ls ≡ true → holds_number n (under o l) ≡ true → holds_number n (under_each o ls) ≡ true
-holds_each o [] l n h u = absurd cc
-holds_each o (k ∷ ls) l n h u =
-    let split : holds_number n (under o k ++ under_each o ls) ≡ (holds_number n (under o k) || holds_number n (under_each o ls)) = holds_append n (under o k) (under_each o ls) in
-    by_test (same k l)
-    (λ t. let is : l ≡ k = grind (arith, same_tells k l) in let r : holds_number n (under o k) ≡ true = subst (λ x. holds_number n (under o x) ≡ true) is u in grind (arith, split, r))
-    (λ f. let later : has l ls ≡ true = grind (arith, h, f) in let r : holds_number n (under_each o ls) ≡ true = holds_each o ls l n later u in grind (arith, split, r))
+each_tail : (ls : List Literal) (ns : List ℕ) (p : ℕ × List Literal) (ps : Numbered) → HoldsEach ls ns (p ∷ ps) → HoldsEach ls ns ps
+each_tail [] ns p ps h = tt
+each_tail (k ∷ ls) ns p ps h = (h.0.1, each_tail ls ns p ps h.1)
 
-clause_held : (o : Occurring) (w : Witness) (n : ℕ) (d : List Literal) → IsUnder (under o) n d → list_any (λ l. moves (image (substitution w) l) l) d ≡ true → holds_number n (under_each o (moved_literals w)) ≡ true
-clause_held o w n [] u h = absurd cc
-clause_held o w n (l ∷ ls) u h = by_test (moves (image (substitution w) l) l)
-    (λ m. holds_each o (moved_literals w) l n (moved_has w l m) u.0)
-    (λ f. clause_held o w n ls u.1 (grind (arith, h, f)))
+clause_held : (w : Witness) (ns : List ℕ) (p : ℕ × List Literal) (ps : Numbered) (d : List Literal) → HoldsEach (moved_literals w) ns (p ∷ ps) → ((l : Literal) → has l d ≡ true → has l p.1 ≡ true) → list_any (λ l. moves (image (substitution w) l) l) d ≡ true → holds_number p.0 ns ≡ true
+clause_held w ns p ps [] h part m = absurd cc
+clause_held w ns p ps (l ∷ ls) h part m = by_test (moves (image (substitution w) l) l)
+    (λ t. each_head (moved_literals w) l ns p ps h (moved_has w l t) (part l (let s : same l l ≡ true = same_when l l refl in rw s refl)))
+    (λ f. clause_held w ns p ps ls h (λ k i. part k (grind (arith, i))) (grind (arith, m, f)))
 
-pub holds_left : (o : Occurring) (w : Witness) (ns : List ℕ) (live : Numbered) → ((n : ℕ) → holds_number n (under_each o (moved_literals w)) ≡ true → holds_number n ns ≡ true) → AreUnder (under o) live → HoldsLeft (substitution w) ns live
-holds_left o w ns [] within u = tt
-holds_left o w ns (p ∷ ps) within u = (λ h. within p.0 (clause_held o w p.0 p.1 u.0 (left_moves (substitution w) p.1 h)), holds_left o w ns ps within u.1)
+pub holds_left : (w : Witness) (ns : List ℕ) (live : Numbered) → HoldsEach (moved_literals w) ns live → HoldsLeft (substitution w) ns live
+holds_left w ns [] h = tt
+holds_left w ns (p ∷ ps) h = (λ m. clause_held w ns p ps p.1 h (λ l i. i) (left_moves (substitution w) p.1 m), holds_left w ns ps (each_tail (moved_literals w) ns p ps h))
 
--- the same numbers in another order
-holds_any : (n : ℕ) (ns : List ℕ) → list_any (λ m. m == n) ns ≡ holds_number n ns
-holds_any n [] = refl
-holds_any n (m ∷ ms) = ap (λ b. (m == n) || b) (holds_any n ms)
+-- more numbers
+pub with_more : (l : Literal) (ns ms : List ℕ) (live : Numbered) → KeepsHeld ns ms → HoldsWith l ns live → HoldsWith l ms live
+with_more l ns ms [] k h = tt
+with_more l ns ms (p ∷ ps) k h = (λ i. k p.0 (h.0 i), with_more l ns ms ps k h.1)
 
-pub holds_moved : (n : ℕ) (xs ys : List ℕ) → IsPermutation xs ys → holds_number n ys ≡ holds_number n xs
-holds_moved n xs ys p = sym (holds_any n ys) ∙ sym (list_any-IsPermutation (λ m. m == n) xs ys p) ∙ holds_any n xs
+pub each_more : (ls : List Literal) (ns ms : List ℕ) (live : Numbered) → KeepsHeld ns ms → HoldsEach ls ns live → HoldsEach ls ms live
+each_more [] ns ms live k h = tt
+each_more (l ∷ ls) ns ms live k h = (with_more l ns ms live k h.0, each_more ls ns ms live k h.1)
+
+pub each_append : (xs ys : List Literal) (ns : List ℕ) (live : Numbered) → HoldsEach xs ns live → HoldsEach ys ns live → HoldsEach (xs ++ ys) ns live
+each_append [] ys ns live h k = k
+each_append (x ∷ xs) ys ns live h k = (h.0, each_append xs ys ns live h.1 k)
+
+pub left_more : (s : Substitution) (ns ms : List ℕ) (live : Numbered) → KeepsHeld ns ms → HoldsLeft s ns live → HoldsLeft s ms live
+left_more s ns ms [] k h = tt
+left_more s ns ms (p ∷ ps) k h = (λ i. k p.0 (h.0 i), left_more s ns ms ps k h.1)
+
+-- maps one after another
+pub sent_append : (ms ks : List (Literal × Literal)) → sent_literals (ms ++ ks) ≡ sent_literals ms ++ sent_literals ks
+sent_append [] ks = refl
+sent_append (m ∷ ms) ks = by_test (same m.0 m.1)
+    (λ t. rw t (sent_append ms ks))
+    (λ f. rw f (ap (λ x. m.0 ∷ complement m.0 ∷ x) (sent_append ms ks)))

@@ -6,6 +6,7 @@ pub mod Following
 pub mod Grouping
 pub mod Fitting
 pub mod Checks
+pub mod Numbering
 pub mod Entering
 pub mod Gathering
 pub mod Choosing

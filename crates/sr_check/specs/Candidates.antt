@@ -1,10 +1,10 @@
 -- The clauses of which a witness may leave something.
 use Rattle.std.specs.Prelude.{ℕ, ◌+◌, ◌≤◌, ◌≡◌, Bool, true, false, cond, List, [], ◌∷◌, ◌++◌, Some, None}
-use Rattle.sr_base.specs.Literal.{Literal, complement, compl, same}
+use Rattle.sr_base.specs.Literal.{Literal, complement, compl, same, has}
 use Rattle.sr_model.specs.Assignment.{holds_number}
 use Rattle.sr_model.specs.Substitution.{Substitution, Witness, Reduction, untouched, satisfied, left, reduction}
 use Rattle.sr_model.specs.Chain.{Numbered, clause_of}
-use Rattle.sr_model.specs.Meeting.{Group, Meeting, met, left_meets}
+use Rattle.sr_model.specs.Meeting.{Group, Meeting, met, both, left_meets}
 
 -- each number is above the one before it
 abbrev pub RiseFrom : ℕ → Numbered → Type 0
@@ -25,6 +25,16 @@ abbrev pub HoldsLeft : Substitution → List ℕ → Numbered → Type 0
 HoldsLeft s ns [] = Unit {0}
 HoldsLeft s ns (p ∷ ps) = (is_left (reduction s p.1) ≡ true → holds_number p.0 ns ≡ true) × HoldsLeft s ns ps
 
+-- the numbers of the clauses that have a literal are all in a list
+abbrev pub HoldsWith : Literal → List ℕ → Numbered → Type 0
+HoldsWith l ns [] = Unit {0}
+HoldsWith l ns (p ∷ ps) = (has l p.1 ≡ true → holds_number p.0 ns ≡ true) × HoldsWith l ns ps
+
+-- for each of some literals
+abbrev pub HoldsEach : List Literal → List ℕ → Numbered → Type 0
+HoldsEach [] ns live = Unit {0}
+HoldsEach (l ∷ ls) ns live = HoldsWith l ns live × HoldsEach ls ns live
+
 -- the literals that are sent elsewhere, both of each variable
 abbrev pub sent_literals : List (Literal × Literal) → List Literal
 sent_literals [] = []
@@ -37,3 +47,8 @@ moved_literals w = complement w.pivot ∷ (compl w.assigned ++ sent_literals w.m
 -- how what is left of the clause of a number is met, if there is one
 abbrev pub number_meets : Bool → Numbered → List Literal → Substitution → List Group → ℕ → Meeting
 number_meets strict live b s gs n = elim (clause_of live n) [ None ↦ met | Some d ↦ left_meets strict live b gs n (reduction s d) ]
+
+-- the numbers are tried in order
+abbrev pub list_meets : Bool → Numbered → List Literal → Substitution → List Group → List ℕ → Meeting
+list_meets strict live b s gs [] = met
+list_meets strict live b s gs (n ∷ ns) = both (number_meets strict live b s gs n) (list_meets strict live b s gs ns)

@@ -5,5 +5,6 @@ pub mod Ends
 pub mod Indexing
 pub mod Occurring
 pub mod Candidates
+pub mod Numbers
 pub mod Ready
 pub mod Checking

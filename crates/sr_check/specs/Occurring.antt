@@ -1,44 +1,43 @@
--- Lists of clause numbers by literal. A head tells the place of a list's newest entry, and each entry that of an older
--- one; places are counted from 1, and 0 is the end.
-use Rattle.std.specs.Prelude.{ℕ, zero, suc, ◌≤◌, ◌==◌, ◌≡◌, Bool, true, cond, List, [], ◌∷◌, ◌++◌, length, slice_index_or}
+-- Lists of clause numbers by literal. A head tells the place of a literal's list; places are counted from 1, and a literal
+-- of the place 0 has no list yet.
+use Rattle.std.specs.Prelude.{ℕ, zero, suc, ◌≤◌, ◌≡◌, ◌⊎◌, Bool, true, cond, List, [], ◌∷◌, ◌++◌, length, slice_index_or}
 use Rattle.sr_base.specs.Literal.{Literal, literal_code, same}
 use Rattle.sr_model.specs.Assignment.{holds_number}
 use Rattle.sr_model.specs.Chain.{Numbered}
-use Rattle.sr_check.specs.declared.occurrences.Entry.{Entry}
 
--- whether the lists are built, the head of each code, and the entries
+-- whether the lists are built, the head of each code, and the lists
 pub record Occurring : Type 0 where
   pub built : Bool
   pub heads : List ℕ
-  pub entries : List Entry
+  pub lists : List (List ℕ)
 
-abbrev pub nothing : Entry
-nothing = record { number = 0; next = 0 }
+abbrev pub head_at : List ℕ → ℕ → ℕ
+head_at heads code = slice_index_or heads code 0
 
--- the numbers from a place on, which is one of the first `k`
-abbrev pub numbers_from : List Entry → ℕ → ℕ → List ℕ
-numbers_from es zero at = []
-numbers_from es (suc k) at = cond (at == suc k) ((slice_index_or es k nothing).number ∷ numbers_from es k (slice_index_or es k nothing).next) (numbers_from es k at)
+-- the list of a place
+abbrev pub list_at : List (List ℕ) → ℕ → List ℕ
+list_at ls zero = []
+list_at ls (suc i) = slice_index_or ls i []
 
-abbrev pub numbers_under : List ℕ → List Entry → Literal → List ℕ
-numbers_under heads es l = numbers_from es (length es) (slice_index_or heads (literal_code l) 0)
+abbrev pub numbers_under : List ℕ → List (List ℕ) → Literal → List ℕ
+numbers_under heads ls l = list_at ls (head_at heads (literal_code l))
 
 -- the numbers in the list of a literal
 abbrev pub under : Occurring → Literal → List ℕ
-under o l = numbers_under o.heads o.entries l
+under o l = numbers_under o.heads o.lists l
 
--- each entry leads to an older one
-abbrev pub LeadBack : List Entry → Type 0
-LeadBack es = (i : ℕ) → (slice_index_or es i nothing).next ≤ i
+-- there is a list for each head, and no two have the same
+pub record AreLinked (heads : List ℕ) (ls : List (List ℕ)) : Type 0 where
+  pub known : (i : ℕ) → head_at heads i ≤ length ls
+  pub apart : (i j : ℕ) → head_at heads i ≡ head_at heads j → (head_at heads i ≡ 0) ⊎ (i ≡ j)
 
--- and each head to an entry
-pub record AreLinked (heads : List ℕ) (es : List Entry) : Type 0 where
-  pub back : LeadBack es
-  pub known : (i : ℕ) → slice_index_or heads i 0 ≤ length es
+-- the same lists
+abbrev pub SameNumbers : (Literal → List ℕ) → (Literal → List ℕ) → Type 0
+SameNumbers old new = (l : Literal) → new l ≡ old l
 
--- one number is put in front of the list of a literal
+-- one number is put at the end of the list of a literal
 abbrev pub Enters : (Literal → List ℕ) → (Literal → List ℕ) → Literal → ℕ → Type 0
-Enters old new l n = (k : Literal) → new k ≡ cond (same l k) (n ∷ old k) (old k)
+Enters old new l n = (k : Literal) → new k ≡ cond (same l k) (old k ++ n ∷ []) (old k)
 
 -- all numbers stay
 abbrev pub KeepsNumbers : (Literal → List ℕ) → (Literal → List ℕ) → Type 0
@@ -62,8 +61,3 @@ pub record AreListed (o : Occurring) (live : Numbered) : Type 0 where
 -- the lists have the clauses, if they are built
 abbrev pub KeepsListed : Occurring → Numbered → Type 0
 KeepsListed o live = o.built ≡ true → AreUnder (under o) live
-
--- the numbers in the lists of literals
-abbrev pub under_each : Occurring → List Literal → List ℕ
-under_each o [] = []
-under_each o (l ∷ ls) = under o l ++ under_each o ls

@@ -1,70 +1,89 @@
 // The clauses of which a witness may leave something: those that hold a literal that it makes false or sends elsewhere. The
 // others are satisfied, or keep all their literals.
-ghost use Rattle.std.specs.Prelude.{◌≡◌, ◌++◌, OnOk};
-ghost use Rattle.std.specs.List.Sorted.{IsNonDecreasing};
+ghost use Rattle.std.specs.Prelude.{[], ◌∷◌, OnOk};
 ghost use Rattle.sr_base.specs.Literal.{compl};
 ghost use Rattle.sr_model.specs.Substitution.{substitution};
-ghost use Rattle.sr_model.specs.Chain.{Numbered};
-ghost use Rattle.sr_check.specs.Occurring.{AreListed, under_each};
-ghost use Rattle.sr_check.specs.Candidates.{HoldsLeft, sent_literals, moved_literals};
+ghost use Rattle.sr_check.specs.Numbers.{KeepsHeld};
+ghost use Rattle.sr_check.specs.Occurring.{AreListed};
+ghost use Rattle.sr_check.specs.Candidates.{HoldsLeft, HoldsEach, sent_literals};
 
+use crate::live::LiveClauses;
+use crate::number_set::NumberSet;
 use crate::occurrences::Occurrences;
 use sr_base::{Lit, NoMemory};
 use sr_wit::Subst;
 
-/// The numbers of the clauses of which a witness may leave something, in rising order, some of them more than once. There
-/// may be numbers that aren't live.
-pub fn candidates(
-    lists: &Occurrences,
+/// Gathers the numbers of the clauses of which a witness may leave something.
+pub fn gather_candidates(
+    lists: &mut Occurrences,
+    live: &LiveClauses,
     subst: &Subst,
-    numbers: &mut Vec<u32>,
+    numbers: &mut NumberSet,
 ) -> Result<(), NoMemory>
-    ensures left { OnOk result ((live : Numbered) → AreListed lists.now live → HoldsLeft (substitution subst.now) numbers.new.items live) }
-    ensures sorted { OnOk result (IsNonDecreasing numbers.new.items) }
+    requires { AreListed lists.old live.now }
+    ensures listed { AreListed lists.new live.now }
+    ensures left { OnOk result (HoldsLeft (substitution subst.now) numbers.new live.now) }
 {
-    numbers.clear();
-    gather_moved(lists, subst, numbers)?;
-    numbers.sort_unstable();
+    numbers.clear()?;
+    lists.gather(live, subst.pivot().neg(), numbers)?;
+    gather_complements(lists, live, subst.assigned(), numbers)?;
+    gather_sent(lists, live, subst.maps(), numbers)?;
     Ok(())
 }
 
-/// Adds the numbers under the literals that are made false or sent elsewhere.
-fn gather_moved(lists: &Occurrences, subst: &Subst, numbers: &mut Vec<u32>) -> Result<(), NoMemory>
-    ensures { OnOk result (numbers.new.items ≡ numbers.old.items ++ under_each lists.now (moved_literals subst.now)) }
-{
-    lists.gather(subst.pivot().neg(), numbers)?;
-    gather_complements(lists, subst.assigned(), numbers)?;
-    gather_sent(lists, subst.maps(), numbers)?;
-    Ok(())
-}
-
-/// Adds the numbers under the complements of literals.
+/// Gathers the clauses that hold the complement of one of the literals.
 fn gather_complements(
-    lists: &Occurrences,
+    lists: &mut Occurrences,
+    live: &LiveClauses,
     lits: &[Lit],
-    numbers: &mut Vec<u32>,
+    numbers: &mut NumberSet,
 ) -> Result<(), NoMemory>
-    ensures { OnOk result (numbers.new.items ≡ numbers.old.items ++ under_each lists.now (compl lits.now)) }
+    requires { AreListed lists.old live.now }
+    ensures listed { AreListed lists.new live.now }
+    ensures kept { KeepsHeld numbers.old numbers.new }
+    ensures ok { OnOk result (HoldsEach (compl lits.now) numbers.new live.now) }
 {
     for l in lits {
-        lists.gather(l.neg(), numbers)?;
+        lists.gather(live, l.neg(), numbers)?;
     }
     Ok(())
 }
 
-/// Adds the numbers under the literals that maps send elsewhere, and under their complements.
+/// Gathers the clauses that hold a literal that is sent elsewhere, or its complement.
 fn gather_sent(
-    lists: &Occurrences,
+    lists: &mut Occurrences,
+    live: &LiveClauses,
     maps: &[(Lit, Lit)],
-    numbers: &mut Vec<u32>,
+    numbers: &mut NumberSet,
 ) -> Result<(), NoMemory>
-    ensures { OnOk result (numbers.new.items ≡ numbers.old.items ++ under_each lists.now (sent_literals maps.now)) }
+    requires { AreListed lists.old live.now }
+    ensures listed { AreListed lists.new live.now }
+    ensures kept { KeepsHeld numbers.old numbers.new }
+    ensures ok { OnOk result (HoldsEach (sent_literals maps.now) numbers.new live.now) }
 {
     for (from, to) in maps {
-        if !from.is(*to) {
-            lists.gather(*from, numbers)?;
-            lists.gather(from.neg(), numbers)?;
-        }
+        gather_map(lists, live, *from, *to, numbers)?;
     }
+    Ok(())
+}
+
+/// Gathers the clauses that hold a literal or its complement, if it is sent elsewhere.
+fn gather_map(
+    lists: &mut Occurrences,
+    live: &LiveClauses,
+    from: Lit,
+    to: Lit,
+    numbers: &mut NumberSet,
+) -> Result<(), NoMemory>
+    requires { AreListed lists.old live.now }
+    ensures listed { AreListed lists.new live.now }
+    ensures kept { KeepsHeld numbers.old numbers.new }
+    ensures ok { OnOk result (HoldsEach (sent_literals ((from, to) ∷ [])) numbers.new live.now) }
+{
+    if from.is(to) {
+        return Ok(());
+    }
+    lists.gather(live, from, numbers)?;
+    lists.gather(live, from.neg(), numbers)?;
     Ok(())
 }

@@ -10,6 +10,7 @@ ghost use Rattle.sr_check.specs.Trail.{CoversClauses};
 use crate::live::LiveClauses;
 use crate::marks::{Marks, cover_all};
 use crate::meeting::{Meet, Scratch, meet_step};
+use crate::number_set::NumberSet;
 use crate::occurrences::Occurrences;
 use crate::pages::Table;
 use sr_base::{AddStop, Cause, Items, Limits, Lit, NoMemory};
@@ -92,6 +93,9 @@ impl Checker {
         let Ok(index) = Table::new(alloc) else {
             return Err(AddStop::NoMemory);
         };
+        let Ok(numbers) = NumberSet::new(alloc) else {
+            return Err(AddStop::NoMemory);
+        };
         let mut marks = Marks::new(alloc);
         let Ok(()) = add_clauses(&mut live, &mut marks, &formula) else {
             return Err(AddStop::NoMemory);
@@ -112,7 +116,7 @@ impl Checker {
                 marks,
                 index,
                 lists: Occurrences::new(alloc),
-                numbers: Vec::new(alloc),
+                numbers,
                 left: Items::new(alloc),
             },
         })

@@ -10,6 +10,8 @@ mod groups;
 mod live;
 mod marks;
 mod meeting;
+mod number_list;
+mod number_set;
 mod occurrences;
 mod pages;
 #[cfg(test)]

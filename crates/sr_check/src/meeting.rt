@@ -10,11 +10,12 @@ ghost use Rattle.sr_check.specs.Candidates.{AreRising};
 ghost use Rattle.sr_check.specs.Trail.{CoversClauses};
 ghost use Rattle.sr_check.specs.Ends.{meeting_of};
 
-use crate::candidates::candidates;
+use crate::candidates::gather_candidates;
 use crate::chains::{End, refute};
 use crate::groups::{build, forget};
 use crate::live::LiveClauses;
 use crate::marks::Marks;
+use crate::number_set::NumberSet;
 use crate::occurrences::Occurrences;
 use crate::pages::Table;
 use crate::witness::{Trial, meet_witness};
@@ -38,7 +39,7 @@ pub struct Scratch {
     pub marks: Marks,
     pub index: Table,
     pub lists: Occurrences,
-    pub numbers: Vec<u32>,
+    pub numbers: NumberSet,
     pub left: LitList,
 }
 
@@ -181,7 +182,7 @@ fn try_subst(
     ensures lists { KeepsListed scratch.new.lists live.now }
 {
     scratch.lists.build(live)?;
-    candidates(&scratch.lists, subst, &mut scratch.numbers)?;
+    gather_candidates(&mut scratch.lists, live, subst, &mut scratch.numbers)?;
     let trial = Trial {
         strict,
         live,
@@ -191,7 +192,7 @@ fn try_subst(
     };
     meet_witness(
         &trial,
-        &scratch.numbers,
+        &mut scratch.numbers,
         &mut scratch.marks,
         &mut scratch.left,
     )

@@ -1,21 +1,18 @@
 // Lists of clause numbers by literal, by which the clauses are found that a witness touches. They are built when they are
-// first needed. The number of a clause that is dropped stays in its lists, so that a deletion touches none; where too many
-// have stayed, the lists are forgotten.
-ghost use Rattle.std.specs.Prelude.{◌≡◌, ℕ, ◌≤◌, ◌<◌, true, false, ◌++◌, length, slice_index_or, IfOk, OnOk, OnErr, List};
+// first needed. The number of a clause that is dropped stays in its lists until they are next read, so that a deletion
+// touches none; where too many may have stayed, the lists are forgotten.
+ghost use Rattle.std.specs.Prelude.{◌≡◌, ℕ, suc, ◌<◌, true, false, [], ◌∷◌, ◌++◌, length, slice_index_or, slice_set, OnOk, OnErr, IfOk};
 ghost use Rattle.sr_base.specs.Literal.{literal_code};
-ghost use Rattle.sr_check.specs.Occurring.{numbers_from, numbers_under, under, LeadBack, AreLinked, Enters, KeepsNumbers, IsUnder, AreListed, KeepsListed};
+ghost use Rattle.sr_check.specs.Numbers.{KeepsHeld};
+ghost use Rattle.sr_check.specs.Candidates.{HoldsWith};
+ghost use Rattle.sr_check.specs.Occurring.{head_at, numbers_under, under, AreLinked, SameNumbers, Enters, KeepsNumbers, IsUnder, AreListed, KeepsListed};
 
 use crate::live::LiveClauses;
+use crate::number_list::NumberList;
+use crate::number_set::NumberSet;
 use sr_base::{Lit, NoMemory};
 use std::alloc::Global;
 use std::marker::Model;
-
-/// A number in a list, and the place of the next older entry; 0 where there is none.
-#[derive(Clone, Copy)]
-pub struct Entry {
-    pub number: u32,
-    pub next: u32,
-}
 
 /// For each literal a list of clause numbers, once they are built.
 #[derive(Drop)]
@@ -23,17 +20,20 @@ pub struct Occurrences {
     alloc: Global,
     built: bool,
     heads: Vec<u32>,
-    entries: Vec<Entry>,
+    lists: Vec<NumberList>,
+    entered: u64,
 }
 
 impl Model for Occurrences {
+    ghost use Rattle.sr_check.specs.Numbers.{KeepsHeld};
+    ghost use Rattle.sr_check.specs.Candidates.{HoldsWith};
     ghost use Rattle.sr_check.specs.Occurring.{Occurring, AreLinked};
 
     ghost Value = { Occurring };
 
-    ghost view = { λ o. record { built = o.built; heads = o.heads.items; entries = o.entries.items } };
+    ghost view = { λ o. record { built = o.built; heads = o.heads.items; lists = o.lists.items } };
 
-    ghost invariant = { λ o. AreLinked o.heads.items o.entries.items };
+    ghost invariant = { λ o. AreLinked o.heads.items o.lists.items };
 }
 
 impl Occurrences {
@@ -45,7 +45,8 @@ impl Occurrences {
             alloc,
             built: false,
             heads: Vec::new(alloc),
-            entries: Vec::new(alloc),
+            lists: Vec::new(alloc),
+            entered: 0,
         }
     }
 
@@ -69,7 +70,8 @@ impl Occurrences {
             alloc,
             built: true,
             heads: Vec::new(alloc),
-            entries: Vec::new(alloc),
+            lists: Vec::new(alloc),
+            entered: 0,
         };
         let mut walk = live.walk();
         while let Some((number, lits)) = walk.next() {
@@ -85,79 +87,106 @@ impl Occurrences {
         ensures ok { OnOk result (self.old.built ≡ true → IsUnder (under self.new) number lits.now) }
     {
         if self.built {
-            enter_all(&mut self.heads, &mut self.entries, number, lits)?;
+            self.entered = self.entered.saturating_add(lits.len() as u64);
+            enter_all(self.alloc, &mut self.heads, &mut self.lists, number, lits)?;
         }
         Ok(())
     }
 
-    /// Forgets the lists, if they have more entries than this.
+    /// Forgets the lists, if more literals than this were entered.
     pub fn limit(&mut self, most: u64)
         ensures { self.new.built ≡ true → self.new ≡ self.old }
     {
-        if self.entries.len() as u64 > most {
+        if self.entered > most {
             *self = Occurrences::new(self.alloc);
         }
     }
 
-    /// Adds the numbers in the list of a literal.
-    pub fn gather(&self, l: Lit, numbers: &mut Vec<u32>) -> Result<(), NoMemory>
-        ensures { OnOk result (numbers.new.items ≡ numbers.old.items ++ under self.now l) }
+    /// Adds the numbers of the live clauses that hold a literal. Its list loses the numbers of others.
+    pub fn gather(
+        &mut self,
+        live: &LiveClauses,
+        l: Lit,
+        numbers: &mut NumberSet,
+    ) -> Result<(), NoMemory>
+        requires { AreListed self.old live.now }
+        ensures listed { AreListed self.new live.now }
+        ensures kept { KeepsHeld numbers.old numbers.new }
+        ensures ok { OnOk result (HoldsWith l numbers.new live.now) }
     {
-        let code = l.code() as usize;
-        if code >= self.heads.len() {
+        let head = head_of(&self.heads, l) as usize;
+        if head == 0 {
             return Ok(());
         }
-        push_list(&self.entries, self.heads[code], numbers)
+        let list = &mut self.lists[head - 1];
+        list.keep_live(live);
+        numbers.add_all(list.as_slice())?;
+        Ok(())
     }
+}
+
+/// The place of a literal's list, from 1 on; 0 where it has none.
+fn head_of(heads: &[u32], l: Lit) -> u32
+    ensures { result ≡ head_at heads.now (literal_code l) }
+{
+    let code = l.code() as usize;
+    if code < heads.len() { heads[code] } else { 0 }
 }
 
 /// Enters a number in the lists of literals.
 fn enter_all(
+    alloc: Global,
     heads: &mut Vec<u32>,
-    entries: &mut Vec<Entry>,
+    lists: &mut Vec<NumberList>,
     number: u32,
     lits: &[Lit],
 ) -> Result<(), NoMemory>
-    requires { AreLinked heads.old.items entries.old.items }
-    ensures linked { AreLinked heads.new.items entries.new.items }
-    ensures kept { KeepsNumbers (numbers_under heads.old.items entries.old.items) (numbers_under heads.new.items entries.new.items) }
-    ensures ok { OnOk result (IsUnder (numbers_under heads.new.items entries.new.items) number lits.now) }
+    requires { AreLinked heads.old.items lists.old.items }
+    ensures linked { AreLinked heads.new.items lists.new.items }
+    ensures kept { KeepsNumbers (numbers_under heads.old.items lists.old.items) (numbers_under heads.new.items lists.new.items) }
+    ensures ok { OnOk result (IsUnder (numbers_under heads.new.items lists.new.items) number lits.now) }
 {
     for l in lits {
-        enter_one(heads, entries, number, *l)?;
+        let place = open_list(alloc, heads, lists, *l)?;
+        push_number(lists, place, number)?;
     }
     Ok(())
 }
 
-/// Enters a number in the list of a literal.
-fn enter_one(
+/// The place of a literal's list, from 0 on. Where it has none, it gets an empty one.
+#[inline]
+fn open_list(
+    alloc: Global,
     heads: &mut Vec<u32>,
-    entries: &mut Vec<Entry>,
-    number: u32,
+    lists: &mut Vec<NumberList>,
     l: Lit,
-) -> Result<(), NoMemory>
-    requires { AreLinked heads.old.items entries.old.items }
-    ensures linked { AreLinked heads.new.items entries.new.items }
-    ensures ok { OnOk result (Enters (numbers_under heads.old.items entries.old.items) (numbers_under heads.new.items entries.new.items) l number) }
-    ensures err { OnErr result (KeepsNumbers (numbers_under heads.old.items entries.old.items) (numbers_under heads.new.items entries.new.items)) }
+) -> Result<usize, NoMemory>
+    requires { AreLinked heads.old.items lists.old.items }
+    ensures linked { AreLinked heads.new.items lists.new.items }
+    ensures same { SameNumbers (numbers_under heads.old.items lists.old.items) (numbers_under heads.new.items lists.new.items) }
+    ensures place { IfOk result (λ p. head_at heads.new.items (literal_code l) ≡ suc p) }
 {
     reach(heads, l)?;
-    let place = entries.len() + 1;
-    if place > u32::MAX as usize {
+    let code = l.code() as usize;
+    let place = heads[code];
+    if place > 0 {
+        return Ok(place as usize - 1);
+    }
+    let place = lists.len();
+    if place >= u32::MAX as usize {
         return Err(NoMemory);
     }
-    let code = l.code() as usize;
-    let next = heads[code];
-    let Ok(()) = entries.push(Entry { number, next }) else {
+    let Ok(()) = lists.push(NumberList::new(alloc)) else {
         return Err(NoMemory);
     };
-    heads[code] = place as u32;
-    Ok(())
+    heads[code] = place as u32 + 1;
+    Ok(place)
 }
 
 /// Makes room for the heads of a literal and of its complement.
+#[inline]
 fn reach(heads: &mut Vec<u32>, l: Lit) -> Result<(), NoMemory>
-    ensures same { (i : ℕ) → slice_index_or heads.new.items i 0 ≡ slice_index_or heads.old.items i 0 }
+    ensures same { (i : ℕ) → head_at heads.new.items i ≡ head_at heads.old.items i }
     ensures ok { OnOk result (literal_code l < length heads.new.items) }
 {
     let wanted = 2 * l.var() as usize + 2;
@@ -167,19 +196,13 @@ fn reach(heads: &mut Vec<u32>, l: Lit) -> Result<(), NoMemory>
     Ok(())
 }
 
-/// Adds the numbers from an entry on.
-fn push_list(entries: &[Entry], first: u32, numbers: &mut Vec<u32>) -> Result<(), NoMemory>
-    requires back { LeadBack entries.now }
-    requires known { first ≤ length entries.now }
-    ensures { OnOk result (numbers.new.items ≡ numbers.old.items ++ numbers_from entries.now (length entries.now) first) }
+/// Puts a number at the end of the list of a place.
+#[inline]
+fn push_number(lists: &mut Vec<NumberList>, place: usize, number: u32) -> Result<(), NoMemory>
+    requires { place < length lists.old.items }
+    ensures ok { OnOk result (lists.new.items ≡ slice_set lists.old.items place (slice_index_or lists.old.items place [] ++ number ∷ [])) }
+    ensures err { OnErr result (lists.new.items ≡ lists.old.items) }
 {
-    let mut place = first;
-    while place > 0 {
-        let entry = entries[place as usize - 1];
-        let Ok(()) = numbers.push(entry.number) else {
-            return Err(NoMemory);
-        };
-        place = entry.next;
-    }
-    Ok(())
+    let list = &mut lists[place];
+    list.push(number)
 }

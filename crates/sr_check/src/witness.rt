@@ -4,9 +4,8 @@ ghost use Rattle.std.specs.Prelude.{◌≡◌, ◌≤◌, [], false, cond, IfOk}
 ghost use Rattle.sr_model.specs.Substitution.{has_pair, substitution, reduction};
 ghost use Rattle.sr_model.specs.Chain.{clauses};
 ghost use Rattle.sr_model.specs.Meeting.{needs_hints, left_meets, all_left_meet, groups_fit, witness_meets, met};
-ghost use Rattle.std.specs.List.Sorted.{IsNonDecreasing};
 ghost use Rattle.sr_check.specs.Trail.{CoversClauses};
-ghost use Rattle.sr_check.specs.Candidates.{AreRising, HoldsLeft, number_meets};
+ghost use Rattle.sr_check.specs.Candidates.{AreRising, HoldsLeft, number_meets, list_meets};
 ghost use Rattle.sr_check.specs.Indexing.{IsIndex, IsLive};
 ghost use Rattle.sr_check.specs.Ends.{meeting_of};
 
@@ -15,6 +14,7 @@ use crate::groups::hints_for;
 use crate::live::LiveClauses;
 use crate::marks::Marks;
 use crate::meeting::Meet;
+use crate::number_set::NumberSet;
 use crate::pages::Table;
 use sr_base::{Cause, Lit, LitList, NoMemory};
 use sr_wit::{Group, Reduced, Subst};
@@ -33,7 +33,7 @@ pub struct Trial<'a> {
 /// the prefix reached, and keep it.
 pub fn meet_witness(
     trial: &Trial,
-    numbers: &[u32],
+    numbers: &mut NumberSet,
     marks: &mut Marks,
     left: &mut LitList,
 ) -> Result<Meet, NoMemory>
@@ -41,8 +41,7 @@ pub fn meet_witness(
     requires room { CoversClauses marks.old.room (clauses trial.now.live.now) }
     requires index { IsIndex trial.now.index.now trial.now.live.now trial.now.groups.now }
     requires rising { AreRising trial.now.live.now }
-    requires left { HoldsLeft (substitution trial.now.subst.now) numbers.now trial.now.live.now }
-    requires sorted { IsNonDecreasing numbers.now }
+    requires left { HoldsLeft (substitution trial.now.subst.now) numbers.old trial.now.live.now }
     ensures met { IfOk result (λ m. witness_meets trial.now.strict trial.now.live.now marks.old.lits (substitution trial.now.subst.now) trial.now.groups.now ≡ meeting_of m) }
     ensures room { marks.old.room ≤ marks.new.room }
 {
@@ -101,8 +100,31 @@ fn needs(
     Ok(!closes)
 }
 
-/// How the live clauses are met, in order: those of the numbers, as nothing is left of the others.
+/// How the live clauses are met: those of the numbers, as nothing is left of the others. Where one isn't met, the first such
+/// one is found in rising order.
 fn meet_all(
+    trial: &Trial,
+    numbers: &mut NumberSet,
+    marks: &mut Marks,
+    left: &mut LitList,
+) -> Result<Meet, NoMemory>
+    requires no_pair { has_pair marks.old.lits ≡ false }
+    requires room { CoversClauses marks.old.room (clauses trial.now.live.now) }
+    requires index { IsIndex trial.now.index.now trial.now.live.now trial.now.groups.now }
+    requires rising { AreRising trial.now.live.now }
+    requires left { HoldsLeft (substitution trial.now.subst.now) numbers.old trial.now.live.now }
+    ensures met { IfOk result (λ m. all_left_meet trial.now.strict trial.now.live.now marks.old.lits (substitution trial.now.subst.now) trial.now.groups.now trial.now.live.now ≡ meeting_of m) }
+    ensures room { marks.old.room ≤ marks.new.room }
+{
+    if let Meet::Met = meet_each(trial, numbers.as_slice(), marks, left)? {
+        return Ok(Meet::Met);
+    }
+    numbers.sort();
+    meet_each(trial, numbers.as_slice(), marks, left)
+}
+
+/// How the clauses of numbers are met, in the order of the list.
+fn meet_each(
     trial: &Trial,
     numbers: &[u32],
     marks: &mut Marks,
@@ -111,16 +133,11 @@ fn meet_all(
     requires no_pair { has_pair marks.old.lits ≡ false }
     requires room { CoversClauses marks.old.room (clauses trial.now.live.now) }
     requires index { IsIndex trial.now.index.now trial.now.live.now trial.now.groups.now }
-    requires rising { AreRising trial.now.live.now }
-    requires left { HoldsLeft (substitution trial.now.subst.now) numbers.now trial.now.live.now }
-    requires sorted { IsNonDecreasing numbers.now }
-    ensures met { IfOk result (λ m. all_left_meet trial.now.strict trial.now.live.now marks.old.lits (substitution trial.now.subst.now) trial.now.groups.now trial.now.live.now ≡ meeting_of m) }
+    ensures met { IfOk result (λ m. list_meets trial.now.strict trial.now.live.now marks.old.lits (substitution trial.now.subst.now) trial.now.groups.now numbers.now ≡ meeting_of m) }
+    ensures lits { marks.new.lits ≡ marks.old.lits }
     ensures room { marks.old.room ≤ marks.new.room }
 {
-    for (i, number) in numbers.iter().enumerate() {
-        if i > 0 && *number == numbers[i - 1] {
-            continue;
-        }
+    for number in numbers {
         if let Meet::Unmet(cause) = meet_number(trial, marks, left, *number)? {
             return Ok(Meet::Unmet(cause));
         }

@@ -1,50 +1,41 @@
-use Rattle.std.proofs.Common.{◌≡◌, ◌∙◌, sym, ap, subst, refl, get_or, take, arith}
-use Rattle.std.proofs.lemmas.List.{take_all}
-use Rattle.sr_model.specs.Substitution.{substitution}
-use Rattle.sr_model.specs.Chain.{clauses}
-use Rattle.sr_model.specs.Meeting.{met, unmet}
-use Rattle.sr_check.specs.Candidates.{number_meets}
+use Rattle.std.proofs.Common.{◌≡◌, ◌∙◌, sym, ap, List, Result, Ok, Err, Bool}
+use Rattle.std.specs.Result.{IfOk}
+use Rattle.sr_base.specs.Literal.{Literal}
+use Rattle.sr_model.specs.Substitution.{Substitution, substitution}
+use Rattle.sr_model.specs.Chain.{Numbered, clauses}
+use Rattle.sr_model.specs.Meeting.{Group, met}
+use Rattle.sr_check.specs.Candidates.{HoldsLeft, list_meets}
 use Rattle.sr_check.specs.Ends.{meeting_of}
 use Rattle.sr_check.proofs.Following.{clauses_more}
-use Rattle.sr_check.proofs.Choosing.{AreMet, met_more, met_again, all_met, one_unmet}
+use Rattle.sr_check.proofs.Gathering.{left_more}
+use Rattle.sr_check.proofs.Choosing.{all_met, met_each, all_sorted}
 use Rattle.sr_check.proofs.witness.meet_all.Goals as goal
 
-pub loop-i-init : goal.loop-i-init
-loop-i-init c = record { lits = refl; room = omega arith; done = λ n h. absurd cc }
+ok_then : {T E : Type 0} (r : Result T E) (P Q : T → Type 0) → ((x : T) → P x → Q x) → IfOk r P → IfOk r Q
+ok_then (Ok x) P Q f h = f x h
+ok_then (Err e) P Q f h = tt
 
-pub meet_number-requires-clause-room : goal.meet_number-requires-clause-room
-meet_number-requires-clause-room c = clauses_more c.args.marks.now.room c.loop-i.marks.room (clauses c.args.trial.now.live.now) c.loop-i.invariant.room c.requires.room
+pub returns-in-Met-clause-met : goal.returns-in-Met-clause-met
+returns-in-Met-clause-met c =
+    let strict : Bool = c.args.trial.now.strict in
+    let live : Numbered = c.args.trial.now.live.now in
+    let b : List Literal = c.args.marks.now.lits in
+    let s : Substitution = substitution c.args.trial.now.subst.now in
+    let gs : List Group = c.args.trial.now.groups.now in
+    let all : list_meets strict live b s gs c.args.numbers.now ≡ met = ap (list_meets strict live b s gs) (sym c.as_slice.ensures) ∙ c.in_ok-meet_each.ensures.met ∙ ap meeting_of c.in-Met.is in
+    all_met strict live b s gs c.args.numbers.now c.requires.rising c.requires.left (met_each strict live b s gs c.args.numbers.now all)
 
-pub loop-i-preserved-then-number-numbers : goal.loop-i-preserved-then-number-numbers
-loop-i-preserved-then-number-numbers c = record {
-  lits = c.loop-i.invariant.lits;
-  room = c.loop-i.invariant.room;
-  done = met_again c.args.trial.now.strict c.args.trial.now.live.now c.args.marks.now.lits (substitution c.args.trial.now.subst.now) c.args.trial.now.groups.now c.args.numbers.now c.loop-i.i (get_or c.args.numbers.now c.loop-i.i 0)
-      (omega arith) (omega arith) refl c.if-number-numbers.true c.loop-i.invariant.done;
-}
-
-pub returns-in-Unmet-clause-met : goal.returns-in-Unmet-clause-met
-returns-in-Unmet-clause-met c =
-    let told : number_meets c.args.trial.now.strict c.args.trial.now.live.now c.args.marks.now.lits (substitution c.args.trial.now.subst.now) c.args.trial.now.groups.now (get_or c.args.numbers.now c.loop-i.i 0) ≡ unmet c.in-Unmet.cause =
-    ap (λ b. number_meets c.args.trial.now.strict c.args.trial.now.live.now b (substitution c.args.trial.now.subst.now) c.args.trial.now.groups.now (get_or c.args.numbers.now c.loop-i.i 0)) (sym c.loop-i.invariant.lits)
-    ∙ c.in_ok-cause.ensures.met ∙ ap meeting_of c.in-Unmet.is in
-    one_unmet c.args.trial.now.strict c.args.trial.now.live.now c.args.marks.now.lits (substitution c.args.trial.now.subst.now) c.args.trial.now.groups.now c.args.numbers.now c.loop-i.i (get_or c.args.numbers.now c.loop-i.i 0) c.in-Unmet.cause
-    c.requires.rising c.requires.left c.requires.sorted (omega arith) refl c.loop-i.invariant.done told
-
-pub loop-i-preserved : goal.loop-i-preserved
-loop-i-preserved c =
-    let told : number_meets c.args.trial.now.strict c.args.trial.now.live.now c.args.marks.now.lits (substitution c.args.trial.now.subst.now) c.args.trial.now.groups.now (get_or c.args.numbers.now c.loop-i.i 0) ≡ met =
-    ap (λ b. number_meets c.args.trial.now.strict c.args.trial.now.live.now b (substitution c.args.trial.now.subst.now) c.args.trial.now.groups.now (get_or c.args.numbers.now c.loop-i.i 0)) (sym c.loop-i.invariant.lits)
-    ∙ c.in_ok-cause.ensures.met ∙ ap meeting_of c.in_default.is in
-    record {
-      lits = c.in_ok-cause.ensures.lits ∙ c.loop-i.invariant.lits;
-      room = omega (arith, c.loop-i.invariant.room, c.in_ok-cause.ensures.room);
-      done = met_more c.args.trial.now.strict c.args.trial.now.live.now c.args.marks.now.lits (substitution c.args.trial.now.subst.now) c.args.trial.now.groups.now c.args.numbers.now c.loop-i.i (get_or c.args.numbers.now c.loop-i.i 0)
-          (omega arith) refl c.loop-i.invariant.done told;
-    }
+pub meet_each-requires-2-clause-room : goal.meet_each-requires-2-clause-room
+meet_each-requires-2-clause-room c = clauses_more c.args.marks.now.room c.meet_each.new.marks.room (clauses c.args.trial.now.live.now) c.in_ok-meet_each.ensures.room c.requires.room
 
 pub returns-clause-met : goal.returns-clause-met
 returns-clause-met c =
-    let whole : take c.loop-i.i c.args.numbers.now ≡ c.args.numbers.now = take_all c.loop-i.i c.args.numbers.now (omega arith) in
-    all_met c.args.trial.now.strict c.args.trial.now.live.now c.args.marks.now.lits (substitution c.args.trial.now.subst.now) c.args.trial.now.groups.now c.args.numbers.now c.requires.rising c.requires.left
-    (subst (AreMet c.args.trial.now.strict c.args.trial.now.live.now c.args.marks.now.lits (substitution c.args.trial.now.subst.now) c.args.trial.now.groups.now) whole c.loop-i.invariant.done)
+    let strict : Bool = c.args.trial.now.strict in
+    let live : Numbered = c.args.trial.now.live.now in
+    let b : List Literal = c.args.marks.now.lits in
+    let s : Substitution = substitution c.args.trial.now.subst.now in
+    let gs : List Group = c.args.trial.now.groups.now in
+    let left : HoldsLeft s c.sort.new.self live = left_more s c.args.numbers.now c.sort.new.self live c.sort.ensures.held c.requires.left in
+    ok_then c.meet_each-2.result _ _ (λ m h. all_sorted strict live b s gs c.sort.new.self (meeting_of m) c.requires.rising left c.sort.ensures.sorted
+    (ap (list_meets strict live b s gs) (sym c.as_slice-2.ensures) ∙ ap (λ x. list_meets strict live x s gs c.as_slice-2.result.now) (sym c.in_ok-meet_each.ensures.lits) ∙ h))
+    c.meet_each-2.ensures.met

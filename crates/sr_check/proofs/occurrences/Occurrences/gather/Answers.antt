@@ -1,14 +1,46 @@
-use Rattle.std.proofs.Common.{◌≡◌, ◌∙◌, ◌≤◌, [], ap, sym, length, arith}
-use Rattle.std.proofs.lemmas.List.{append-nil, get_or_past}
+use Rattle.std.proofs.Common.{◌≡◌, ◌∙◌, ◌-◌, ◌<◌, [], sym, ap, subst, suc, arith, get_or, set, length, List, ℕ}
+use Rattle.std.proofs.lemmas.List.{get_or_default}
 use Rattle.sr_base.specs.Literal.{literal_code}
-use Rattle.sr_check.specs.Occurring.{Occurring, under, numbers_from, numbers_under}
-use Rattle.sr_check.proofs.Entering.{from_end}
+use Rattle.sr_model.specs.Chain.{Numbered}
+use Rattle.sr_check.specs.Occurring.{Occurring, AreListed, AreUnder, numbers_under, head_at}
+use Rattle.sr_check.specs.Numbers.{HoldsAll}
+use Rattle.sr_check.proofs.Entering.{none_gathered, gathered, kept_listed, live_only}
 use Rattle.sr_check.proofs.occurrences.Occurrences.gather.Goals as goal
 
-pub returns-then-code-len : goal.returns-then-code-len
-returns-then-code-len c =
-    let past : length c.self.inside.heads.items ≤ literal_code c.args.l = omega (arith, c.if-code-len.true, c.code-code.ensures.value, c.len.ensures, c.self.inside.heads.ok.0) in
-    let none : numbers_under c.self.inside.heads.items c.self.inside.entries.items c.args.l ≡ [] =
-    ap (numbers_from c.self.inside.entries.items (length c.self.inside.entries.items)) (get_or_past c.self.inside.heads.items (literal_code c.args.l) 0 past) ∙ from_end c.self.inside.entries.items (length c.self.inside.entries.items) in
-    let is : under c.args.self.now c.args.l ≡ [] = ap (λ (o : Occurring). under o c.args.l) (sym c.self.view_is) ∙ none in
-    rw is (sym (append-nil c.args.numbers.now.items))
+found : (ls : List (List ℕ)) (i : ℕ) (live : Numbered) (old new : List ℕ) → i < length ls → old ≡ get_or ls i old → new ≡ live_only live old → new ≡ live_only live (get_or ls i [])
+found ls i live old new h is e = e ∙ ap (live_only live) (is ∙ get_or_default ls i old [] h)
+
+kept : (heads : List ℕ) (ls : List (List ℕ)) (i : ℕ) (live : Numbered) (new : List ℕ) → i < length ls → new ≡ live_only live (get_or ls i []) → AreUnder (numbers_under heads ls) live → AreUnder (numbers_under heads (set ls i new)) live
+kept heads ls i live new h e u = rw e (kept_listed heads ls i live h u)
+
+pub returns-then-head-eq0-clause-ok : goal.returns-then-head-eq0-clause-ok
+returns-then-head-eq0-clause-ok c =
+    let listed : AreListed (record { built = c.self.inside.built; heads = c.self.inside.heads.items; lists = c.self.inside.lists.items }) c.args.live.now = subst (λ (o : Occurring). AreListed o c.args.live.now) (sym c.self.view_is) c.requires in
+    let head : c.head_of-head.result ≡ head_at c.self.inside.heads.items (literal_code c.args.l) = c.head_of-head.ensures ∙ ap (λ x. head_at x (literal_code c.args.l)) c.deref.ensures.value in
+    none_gathered c.self.inside.heads.items c.self.inside.lists.items c.args.l c.args.numbers.now c.args.live.now (sym head ∙ c.if-head-eq0.true) listed.under
+
+pub returns-in_err-add_all-clause-listed : goal.returns-in_err-add_all-clause-listed
+returns-in_err-add_all-clause-listed c =
+    let listed : AreListed (record { built = c.self.inside.built; heads = c.self.inside.heads.items; lists = c.self.inside.lists.items }) c.args.live.now = subst (λ (o : Occurring). AreListed o c.args.live.now) (sym c.self.view_is) c.requires in
+    let head : c.head_of-head.result ≡ head_at c.self.inside.heads.items (literal_code c.args.l) = c.head_of-head.ensures ∙ ap (λ x. head_at x (literal_code c.args.l)) c.deref.ensures.value in
+    let within : c.head_of-head.result - 1 < length c.self.inside.lists.items = omega (arith, head, c.self.invariant.known (literal_code c.args.l), c.if-head-eq0.false) in
+    let is : c.keep_live.new.self ≡ live_only c.args.live.now (get_or c.self.inside.lists.items (c.head_of-head.result - 1) []) = found c.self.inside.lists.items (c.head_of-head.result - 1) c.args.live.now c.index_mut-list.result.now c.keep_live.new.self within c.index_mut-list.ensures.value c.keep_live.ensures in
+    record { built = listed.built; under = kept c.self.inside.heads.items c.self.inside.lists.items (c.head_of-head.result - 1) c.args.live.now c.keep_live.new.self within is listed.under }
+
+pub returns-clause-listed : goal.returns-clause-listed
+returns-clause-listed c =
+    let listed : AreListed (record { built = c.self.inside.built; heads = c.self.inside.heads.items; lists = c.self.inside.lists.items }) c.args.live.now = subst (λ (o : Occurring). AreListed o c.args.live.now) (sym c.self.view_is) c.requires in
+    let head : c.head_of-head.result ≡ head_at c.self.inside.heads.items (literal_code c.args.l) = c.head_of-head.ensures ∙ ap (λ x. head_at x (literal_code c.args.l)) c.deref.ensures.value in
+    let within : c.head_of-head.result - 1 < length c.self.inside.lists.items = omega (arith, head, c.self.invariant.known (literal_code c.args.l), c.if-head-eq0.false) in
+    let is : c.keep_live.new.self ≡ live_only c.args.live.now (get_or c.self.inside.lists.items (c.head_of-head.result - 1) []) = found c.self.inside.lists.items (c.head_of-head.result - 1) c.args.live.now c.index_mut-list.result.now c.keep_live.new.self within c.index_mut-list.ensures.value c.keep_live.ensures in
+    record { built = listed.built; under = kept c.self.inside.heads.items c.self.inside.lists.items (c.head_of-head.result - 1) c.args.live.now c.keep_live.new.self within is listed.under }
+
+pub returns-clause-ok : goal.returns-clause-ok
+returns-clause-ok c =
+    let listed : AreListed (record { built = c.self.inside.built; heads = c.self.inside.heads.items; lists = c.self.inside.lists.items }) c.args.live.now = subst (λ (o : Occurring). AreListed o c.args.live.now) (sym c.self.view_is) c.requires in
+    let head : c.head_of-head.result ≡ head_at c.self.inside.heads.items (literal_code c.args.l) = c.head_of-head.ensures ∙ ap (λ x. head_at x (literal_code c.args.l)) c.deref.ensures.value in
+    let within : c.head_of-head.result - 1 < length c.self.inside.lists.items = omega (arith, head, c.self.invariant.known (literal_code c.args.l), c.if-head-eq0.false) in
+    let is : c.keep_live.new.self ≡ live_only c.args.live.now (get_or c.self.inside.lists.items (c.head_of-head.result - 1) []) = found c.self.inside.lists.items (c.head_of-head.result - 1) c.args.live.now c.index_mut-list.result.now c.keep_live.new.self within c.index_mut-list.ensures.value c.keep_live.ensures in
+    let all : HoldsAll c.add_all.new.self (live_only c.args.live.now (get_or c.self.inside.lists.items (c.head_of-head.result - 1) [])) = subst (HoldsAll c.add_all.new.self) (c.as_slice.ensures ∙ is) c.in_ok-add_all.ensures.ok in
+    let place : head_at c.self.inside.heads.items (literal_code c.args.l) ≡ suc (c.head_of-head.result - 1) = omega (arith, head, c.if-head-eq0.false) in
+    gathered c.self.inside.heads.items c.self.inside.lists.items c.args.l (c.head_of-head.result - 1) c.add_all.new.self c.args.live.now place all listed.under
