@@ -1,3 +1,4 @@
 pub mod Weighing
 pub mod Laying
 pub mod Compacting
+pub mod Standing

@@ -11,6 +11,8 @@ mod memory;
 mod moves;
 mod references;
 mod regions;
+#[cfg(test)]
+mod tests;
 
 pub use counting::Steps;
 pub use memory::ClauseMem;

@@ -102,6 +102,15 @@ impl ClauseMem {
         self.regions.lits(at.index() as usize)
     }
 
+    /// Whether a reference names a held clause.
+    #[cfg(test)]
+    pub(crate) fn is_held(&self, at: Cref) -> bool
+        ensures { result ≡ (cell_at self.now at).held }
+    {
+        let at = at.index() as usize;
+        at < self.regions.count() && self.regions.is_held(at)
+    }
+
     /// Exchanges two literals of a clause.
     #[inline]
     pub fn swap(&mut self, at: Cref, i: usize, j: usize)
