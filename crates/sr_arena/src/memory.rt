@@ -5,11 +5,11 @@ ghost use Rattle.sr_arena.specs.Cells.{gone, cell_at, IsHeld, put, with_clause, 
 ghost use Rattle.sr_arena.specs.Links.{link_index, link_of, with_link};
 ghost use Rattle.sr_arena.specs.Compaction.{IsCompacted};
 
-use crate::compaction::{names_of, pack};
 use crate::counting::Steps;
 use crate::moves::CrefMap;
+use crate::naming::names_of;
 use crate::references::{Cref, Side};
-use crate::regions::{Extras, Regions};
+use crate::regions::Regions;
 use sr_base::{AddStop, Limits, Lit, NoMemory};
 use std::alloc::Global;
 use std::marker::Model;
@@ -70,12 +70,7 @@ impl ClauseMem {
         let Some(at) = Cref::from_index(self.regions.count() as u32) else {
             return Err(AddStop::NoMemory);
         };
-        let extras = Extras {
-            first: 0,
-            second: 0,
-            marked: false,
-        };
-        let Ok(()) = self.regions.push(lits, extras) else {
+        let Ok(()) = self.regions.push(lits) else {
             return Err(AddStop::NoMemory);
         };
         self.held += lits.len() as u32 + 4;
@@ -199,7 +194,7 @@ impl ClauseMem {
         ensures map { OnErr result (moved.new ≡ moved.old) }
     {
         let names = names_of(self.alloc, &self.regions)?;
-        self.regions = pack(self.alloc, &self.regions, names.as_slice())?;
+        self.regions.slide(names.as_slice());
         moved.set(names);
         Ok(())
     }
