@@ -3,7 +3,7 @@ use Rattle.std.proofs.Common.{◌≡◌, ◌<◌, ◌≤◌, ◌+◌, ℕ, zero,
 use Rattle.std.proofs.lemmas.List.{append-nil, drop_all}
 use Rattle.sr_base.specs.Literal.{Literal}
 use mir.Val.{bool_byte}
-use Rattle.sr_arena.specs.Cells.{Cell, gone, weight, weights, Memory, cell_at, held_cell}
+use Rattle.sr_arena.specs.Cells.{Cell, gone, weights, Memory, cell_at, held_cell}
 use Rattle.sr_arena.specs.Compaction.{name_in, renamed, IsCompacted}
 use Rattle.sr_arena.specs.Naming.{names_from, packed}
 use Rattle.sr_arena.specs.Layout.{Laid, with_cell}

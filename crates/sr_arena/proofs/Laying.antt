@@ -9,7 +9,7 @@ use borrow.Author.Tests.{ltb-false}
 use mir.Val.{bool_byte}
 use Rattle.sr_base.specs.Literal.{Literal, plus}
 use Rattle.sr_arena.specs.declared.headers.Header.{Header}
-use Rattle.sr_arena.specs.Cells.{Cell, gone, held_cell, weight}
+use Rattle.sr_arena.specs.Cells.{Cell, gone, held_cell}
 use Rattle.sr_arena.specs.Layout.{nowhere, len_of, mark_of, cell_of, cells_of, no_header, header_at, Laid, laid_of, laid_at, lay, with_cell, IsLaid}
 use Rattle.sr_arena.proofs.Weighing.{held_within}
 

@@ -1,17 +1,16 @@
 -- Lemmas on sliding clauses together: what has moved is packed, and what is left is as it was.
-use Rattle.std.proofs.Common.{◌≡◌, ◌≢◌, ◌<◌, ◌≤◌, ◌+◌, ◌*◌, ◌-◌, ℕ, zero, suc, false, true, List, [], ◌∷◌, ◌++◌, refl, sym, ◌∙◌, ap, subst, arith, length, get_or, set, take, drop, get_or-set_other}
+use Rattle.std.proofs.Common.{◌≡◌, ◌≢◌, ◌<◌, ◌≤◌, ◌+◌, ◌-◌, ℕ, zero, suc, false, List, [], ◌∷◌, ◌++◌, refl, sym, ◌∙◌, ap, subst, arith, length, get_or, set, take, drop, get_or-set_other}
 use Rattle.std.specs.List.{copy_within}
 use Rattle.std.proofs.lemmas.List.{drop-drop, length-take, length-take-le, length-drop, length-set, take_more_set, length-map, get_or_default}
 use Rattle.std.proofs.lemmas.List.Edits.{take-paste, drop-paste, length-paste}
 use Rattle.std.proofs.Math.Seq.{paste}
 use Rattle.sr_base.specs.Literal.{Literal}
 use Rattle.sr_arena.specs.declared.headers.Header.{Header}
-use Rattle.sr_arena.specs.Cells.{Cell, gone, held_cell, weights}
+use Rattle.sr_arena.specs.Cells.{Cell, gone, held_cell}
 use Rattle.sr_arena.specs.Compaction.{name_in, renamed}
-use Rattle.sr_arena.specs.Naming.{packed}
 use Rattle.sr_arena.specs.Layout.{nowhere, len_of, mark_of, cell_of, cells_of, no_header, header_at, moved_header, laid_of, IsLaid}
 use Rattle.sr_arena.proofs.Laying.{part, whole, cell_is, cell_whole, cell_gone, pushes}
-use Rattle.sr_arena.proofs.Compacting.{Packing, packing_takes, packing_passes, packing_ends}
+use Rattle.sr_arena.proofs.Compacting.{Packing, packing_takes, packing_passes}
 
 -- the clauses before `at` were moved below `place` under the names below `next`; those from `at` on lie from `read` on
 pub record Slid (ls0 : List Literal) (hs0 : List Header) (names : List ℕ) (ls : List Literal) (hs : List Header) (next place at : ℕ) : Type 0 where

@@ -1,12 +1,12 @@
 -- What stands under a reference after each change, for the crates above.
-use Rattle.std.proofs.Common.{◌≡◌, ◌≢◌, ◌⊎◌, inl, inr, ◌<◌, ◌≤◌, ◌+◌, ℕ, true, false, Bool, ltb, List, [], ◌∷◌, ◌++◌, refl, sym, ◌∙◌, ap, subst, arith, length, get_or, set, get_or-set_same, get_or-set_other, length-append}
+use Rattle.std.proofs.Common.{◌≡◌, ◌≢◌, ◌⊎◌, inl, inr, ℕ, true, false, Bool, ltb, List, [], ◌∷◌, refl, ◌∙◌, ap, arith, length, get_or-set_same, get_or-set_other}
 use Rattle.std.proofs.lemmas.List.{get_or_at, get_or_append_left, get_or_past}
 use Rattle.std.proofs.lemmas.Bool.{cases_eq}
 use Rattle.std.proofs.lemmas.Bool.Decides.{nat_tests}
 use borrow.Author.Tests.{ltb-false}
 use Rattle.sr_base.specs.Literal.{Literal}
 use Rattle.sr_arena.specs.Cells.{Cell, gone, fresh, Memory, cell_at, IsHeld, put, with_clause}
-use Rattle.sr_arena.specs.Compaction.{name_in, renamed, IsCompacted}
+use Rattle.sr_arena.specs.Compaction.{name_in, IsCompacted}
 use Rattle.sr_arena.proofs.Weighing.{held_within}
 
 -- the clause that was added

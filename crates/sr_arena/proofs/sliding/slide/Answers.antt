@@ -1,4 +1,4 @@
-use Rattle.std.proofs.Common.{◌≡◌, ◌<◌, arith, refl, length}
+use Rattle.std.proofs.Common.{◌≡◌, ◌<◌, arith, length}
 use Rattle.sr_arena.specs.Layout.{header_at}
 use Rattle.sr_arena.proofs.Moving.{slid_none, slid_passes, slid_takes, slid_movable, header_read}
 use Rattle.sr_arena.proofs.sliding.slide.Goals.{then-header, else-header}

@@ -1,6 +1,5 @@
-use Rattle.std.proofs.Common.{◌≡◌, refl, sym, ◌∙◌, ap}
-use Rattle.sr_arena.specs.Cells.{Memory, gone, weights}
-use Rattle.sr_arena.specs.Naming.{packed}
+use Rattle.std.proofs.Common.{◌≡◌, sym, ◌∙◌, ap}
+use Rattle.sr_arena.specs.Cells.{Memory, weights}
 use Rattle.sr_arena.proofs.Compacting.{compacted, weighs_gone}
 use Rattle.sr_arena.proofs.memory.ClauseMem.compact.Goals as goal
 

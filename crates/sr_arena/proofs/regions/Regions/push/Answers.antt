@@ -1,4 +1,4 @@
-use Rattle.std.proofs.Common.{◌≡◌, ◌+◌, ◌*◌, ◌/◌, ◌%◌, ◌==◌, ◌++◌, ◌∷◌, [], true, false, not, arith, refl, ◌∙◌, ap, length, ℕ}
+use Rattle.std.proofs.Common.{◌≡◌, ◌*◌, ◌/◌, ◌%◌, ◌==◌, ◌++◌, ◌∷◌, [], true, false, not, arith, refl, ◌∙◌, ap, length, ℕ}
 use Rattle.std.specs.Result.{is_ok}
 use Rattle.sr_arena.specs.declared.headers.Header.{Header}
 use Rattle.sr_arena.proofs.Laying.{pushes}
