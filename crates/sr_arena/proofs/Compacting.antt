@@ -1,9 +1,6 @@
 -- Lemmas on compaction: the names that are given, the cells that are packed, and what that means.
 use Rattle.std.proofs.Common.{◌≡◌, ◌<◌, ◌≤◌, ◌+◌, ℕ, zero, suc, Bool, true, false, cond, List, [], ◌∷◌, ◌++◌, refl, sym, ◌∙◌, ap, subst, arith, length, get_or, drop, append_assoc, add-one, drop-cons}
-use Rattle.std.proofs.lemmas.List.{append-nil, drop_all}
-use Rattle.sr_base.specs.Literal.{Literal}
-use mir.Val.{bool_byte}
-use Rattle.sr_arena.specs.Cells.{Cell, gone, weight, weights, Memory, cell_at, held_cell}
+use Rattle.sr_arena.specs.Cells.{Cell, gone, weights, Memory, cell_at}
 use Rattle.sr_arena.specs.Compaction.{name_in, renamed, IsCompacted}
 use Rattle.sr_arena.specs.Naming.{names_from, packed}
 use Rattle.sr_arena.specs.Layout.{Laid, with_cell}
@@ -18,31 +15,6 @@ pub record Naming (cells : List Cell) (names : List ℕ) (next at : ℕ) : Type 
   pub all : names ++ names_from next (drop at cells) ≡ names_from 1 cells
   pub small : next ≤ at + 1
 
-bit_is : (b : Bool) → cond b 1 0 ≡ bool_byte b
-bit_is true = refl
-bit_is false = refl
-
-bit_small : (b : Bool) → bool_byte b ≤ 1
-bit_small true = omega arith
-bit_small false = omega arith
-
--- one more name
-pub naming_steps : (cells : List Cell) (names : List ℕ) (next at : ℕ) (held : Bool) (name : ℕ) → Naming cells names next at → at < length cells → held ≡ (get_or cells at gone).held → name ≡ cond held next 0
-    → Naming cells (names ++ name ∷ []) (next + bool_byte held) (at + 1)
-naming_steps cells names next at held name n lt e f =
-    let left : drop at cells ≡ get_or cells at gone ∷ drop (suc at) cells = drop-cons cells at gone lt in
-    let tail : names_from next (drop at cells) ≡ name ∷ names_from (next + bool_byte held) (drop (at + 1) cells) = rw (left, add-one, f, e, sym (bit_is (get_or cells at gone).held)) refl in
-    record {
-      all = append_assoc names (name ∷ []) (names_from (next + bool_byte held) (drop (at + 1) cells)) ∙ sym (ap (λ xs. names ++ xs) tail) ∙ n.all;
-      small = omega (arith, n.small, bit_small held);
-    }
-
--- all names
-pub naming_ends : (cells : List Cell) (names : List ℕ) (next at : ℕ) → Naming cells names next at → length cells ≤ at → names ≡ names_from 1 cells
-naming_ends cells names next at n h =
-    let none : names_from next (drop at cells) ≡ [] = rw (drop_all at cells h) refl in
-    sym (ap (λ xs. names ++ xs) none ∙ append-nil names) ∙ n.all
-
 -- the cells so far, and those that are left, are all cells
 pub record Packing (cells : List Cell) (names : List ℕ) (to : Laid) (at : ℕ) : Type 0 where
   pub all : to.cells ++ packed names (drop at cells) ≡ gone ∷ packed names cells
@@ -55,10 +27,6 @@ packing_passes cells names to at p lt e =
     let same : packed names (drop at cells) ≡ packed names (drop (at + 1) cells) = rw (left, add-one, e) refl in
     record { all = sym (ap (λ xs. to.cells ++ xs) same) ∙ p.all; used = p.used }
 
--- what is packed of a held cell
-pub repacked : (names : List ℕ) (c : Cell) (ls : List Literal) (a b f s : ℕ) (m : Bool) → c.held ≡ true → ls ≡ c.lits → a ≡ c.first → b ≡ c.second → m ≡ c.marked → f ≡ name_in names a → s ≡ name_in names b → held_cell ls f s m ≡ renamed names c
-repacked names c ls a b f s m held lits first second marked e g = rw (e, g, lits, first, second, marked, sym held) refl
-
 -- a held cell is packed
 pub packing_takes : (cells : List Cell) (names : List ℕ) (to to' : Laid) (at : ℕ) (c : Cell) → Packing cells names to at → at < length cells → (get_or cells at gone).held ≡ true → c ≡ renamed names (get_or cells at gone) → to' ≡ with_cell to c → Packing cells names to' (at + 1)
 packing_takes cells names to to' at c p lt e f put =
@@ -68,12 +36,6 @@ packing_takes cells names to to' at c p lt e f put =
       all = append_assoc to.cells (c ∷ []) (packed names (drop (at + 1) cells)) ∙ sym (ap (λ xs. to.cells ++ xs) tail) ∙ p.all;
       used = omega (arith, p.used, weights_push to.cells c);
     })
-
--- all cells
-pub packing_ends : (cells : List Cell) (names : List ℕ) (to : Laid) (at : ℕ) → Packing cells names to at → length cells ≤ at → to.cells ≡ gone ∷ packed names cells
-packing_ends cells names to at p h =
-    let none : packed names (drop at cells) ≡ [] = rw (drop_all at cells h) refl in
-    sym (ap (λ xs. to.cells ++ xs) none ∙ append-nil to.cells) ∙ p.all
 
 -- a name that is given isn't below the first one
 low : (n : ℕ) (cs : List Cell) (at : ℕ) → (get_or cs at gone).held ≡ true → n ≤ get_or (names_from n cs) at 0

@@ -8,8 +8,8 @@ use Rattle.std.proofs.lemmas.Bool.{cases_eq}
 use borrow.Author.Tests.{ltb-false}
 use mir.Val.{bool_byte}
 use Rattle.sr_base.specs.Literal.{Literal, plus}
-use Rattle.sr_arena.specs.declared.regions.Header.{Header}
-use Rattle.sr_arena.specs.Cells.{Cell, gone, held_cell, weight}
+use Rattle.sr_arena.specs.declared.headers.Header.{Header}
+use Rattle.sr_arena.specs.Cells.{Cell, gone, held_cell}
 use Rattle.sr_arena.specs.Layout.{nowhere, len_of, mark_of, cell_of, cells_of, no_header, header_at, Laid, laid_of, laid_at, lay, with_cell, IsLaid}
 use Rattle.sr_arena.proofs.Weighing.{held_within}
 
@@ -28,7 +28,7 @@ by_less {P} a b ne f g = at (ltb a b) refl
     at false e = g (omega (arith, ltb-false, ne))
 
 -- the cell of a reference is that of its header
-cell_is : (ls : List Literal) (hs : List Header) (i : ℕ) → get_or (cells_of ls hs) i gone ≡ cell_of ls (header_at hs i)
+pub cell_is : (ls : List Literal) (hs : List Header) (i : ℕ) → get_or (cells_of ls hs) i gone ≡ cell_of ls (header_at hs i)
 cell_is ls [] i = refl
 cell_is ls (h ∷ hs) zero = refl
 cell_is ls (h ∷ hs) (suc i) = cell_is ls hs i

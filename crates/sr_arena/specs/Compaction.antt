@@ -1,5 +1,5 @@
 -- What a compaction does: held clauses move close together and get new names.
-use Rattle.std.specs.Prelude.{ℕ, ◌+◌, ◌<◌, ◌≡◌, true, false, List, slice_index_or}
+use Rattle.std.specs.Prelude.{ℕ, ◌<◌, ◌≡◌, false, List, slice_index_or}
 use Rattle.sr_arena.specs.Cells.{Cell, Memory, cell_at, IsHeld, held_cells}
 
 -- the new name of a reference, 0 for none

@@ -1,7 +1,8 @@
 -- How cells lie in two regions: the literals, and a header for each reference.
 use Rattle.std.specs.Prelude.{ℕ, ◌+◌, ◌*◌, ◌-◌, ◌/◌, ◌%◌, ◌<◌, ◌≤◌, ◌≡◌, ◌≢◌, ◌==◌, Bool, cond, List, [], ◌∷◌, length, map, take, drop, slice_index_or, slice_set, ◌++◌}
 use Rattle.sr_base.specs.Literal.{Literal}
-use Rattle.sr_arena.specs.declared.regions.Header.{Header}
+use Rattle.sr_arena.specs.declared.headers.Header.{Header}
+use Rattle.sr_arena.specs.Compaction.{name_in}
 use Rattle.sr_arena.specs.Cells.{Cell, gone, held_cell, weight}
 
 -- the place that no clause can have
@@ -27,6 +28,10 @@ no_header = record { place = nowhere; size = 0; first = 0; second = 0 }
 
 abbrev pub header_at : List Header → ℕ → Header
 header_at hs i = slice_index_or hs i no_header
+
+-- a header of a clause that moved, with its links under new names
+abbrev pub moved_header : List ℕ → ℕ → Header → Header
+moved_header names place h = record h { place = place; first = name_in names h.first; second = name_in names h.second }
 
 -- what the two regions hold: cells by reference, and how many cells of 32 bits they take
 pub record Laid : Type 0 where

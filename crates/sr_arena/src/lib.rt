@@ -5,12 +5,16 @@
 //! links and a mark.
 #![tactic(auto)]
 
-mod compaction;
 mod counting;
+mod headers;
 mod memory;
 mod moves;
+mod naming;
 mod references;
 mod regions;
+mod sliding;
+#[cfg(test)]
+mod tests;
 
 pub use counting::Steps;
 pub use memory::ClauseMem;

@@ -5,11 +5,11 @@ ghost use Rattle.sr_arena.specs.Cells.{gone, cell_at, IsHeld, put, with_clause, 
 ghost use Rattle.sr_arena.specs.Links.{link_index, link_of, with_link};
 ghost use Rattle.sr_arena.specs.Compaction.{IsCompacted};
 
-use crate::compaction::{names_of, pack};
 use crate::counting::Steps;
 use crate::moves::CrefMap;
+use crate::naming::names_of;
 use crate::references::{Cref, Side};
-use crate::regions::{Extras, Regions};
+use crate::regions::Regions;
 use sr_base::{AddStop, Limits, Lit, NoMemory};
 use std::alloc::Global;
 use std::marker::Model;
@@ -70,12 +70,7 @@ impl ClauseMem {
         let Some(at) = Cref::from_index(self.regions.count() as u32) else {
             return Err(AddStop::NoMemory);
         };
-        let extras = Extras {
-            first: 0,
-            second: 0,
-            marked: false,
-        };
-        let Ok(()) = self.regions.push(lits, extras) else {
+        let Ok(()) = self.regions.push(lits) else {
             return Err(AddStop::NoMemory);
         };
         self.held += lits.len() as u32 + 4;
@@ -100,6 +95,15 @@ impl ClauseMem {
         ensures { result.now ≡ (cell_at self.now at).lits }
     {
         self.regions.lits(at.index() as usize)
+    }
+
+    /// Whether a reference names a held clause.
+    #[cfg(test)]
+    pub(crate) fn is_held(&self, at: Cref) -> bool
+        ensures { result ≡ (cell_at self.now at).held }
+    {
+        let at = at.index() as usize;
+        at < self.regions.count() && self.regions.is_held(at)
     }
 
     /// Exchanges two literals of a clause.
@@ -190,7 +194,7 @@ impl ClauseMem {
         ensures map { OnErr result (moved.new ≡ moved.old) }
     {
         let names = names_of(self.alloc, &self.regions)?;
-        self.regions = pack(self.alloc, &self.regions, names.as_slice())?;
+        self.regions.slide(names.as_slice());
         moved.set(names);
         Ok(())
     }

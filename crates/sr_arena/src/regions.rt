@@ -1,39 +1,20 @@
 // The two regions: the literals of all clauses, and a header for each clause. The rest of the crate sees cells.
 ghost use Rattle.std.specs.Prelude.{◌≡◌, ◌+◌, ◌*◌, ◌<◌, [], ◌∷◌, true, length, IfOk, OnOk, OnErr};
 ghost use Rattle.std.specs.List.{swap};
-ghost use Rattle.sr_arena.specs.Cells.{gone, held_cell};
+ghost use Rattle.sr_arena.specs.Cells.{gone, fresh, weights};
 ghost use Rattle.sr_arena.specs.Links.{link_of, with_link};
+ghost use Rattle.sr_arena.specs.Naming.{packed};
 ghost use Rattle.sr_arena.specs.Layout.{laid_at, lay, with_cell};
 
+use crate::headers::{Header, NOWHERE};
 use crate::references::Side;
+use crate::sliding;
 use sr_base::{Lit, NoMemory};
 use std::alloc::Global;
 use std::marker::Model;
 
-/// The place that no clause can have. A freed clause has it.
-const NOWHERE: u32 = 4_294_967_295;
-
 /// The regions take fewer cells of 32 bits than this.
 const MOST_CELLS: usize = 2_147_483_648;
-
-/// Where a clause's literals lie, how many they are, its mark, and its links: four cells of 32 bits.
-#[derive(Clone, Copy)]
-struct Header {
-    place: u32,
-    /// Twice the number of literals, and one more for a marked clause.
-    size: u32,
-    /// The links, 0 for none.
-    first: u32,
-    second: u32,
-}
-
-/// What a clause has beside its literals.
-#[derive(Clone, Copy)]
-pub struct Extras {
-    pub first: u32,
-    pub second: u32,
-    pub marked: bool,
-}
 
 /// Clauses in two regions. A clause is named by its place among the headers; the header that 0 names is no clause.
 #[derive(Drop)]
@@ -109,21 +90,6 @@ impl Regions {
         &self.lits[from..from + (header.size / 2) as usize]
     }
 
-    /// What a clause has beside its literals.
-    pub fn extras(&self, at: usize) -> Extras
-        requires { (laid_at self.now at).held ≡ true }
-        ensures first { result.first ≡ (laid_at self.now at).first }
-        ensures second { result.second ≡ (laid_at self.now at).second }
-        ensures marked { result.marked ≡ (laid_at self.now at).marked }
-    {
-        let header = &self.headers[at];
-        Extras {
-            first: header.first,
-            second: header.second,
-            marked: header.size % 2 == 1,
-        }
-    }
-
     /// Exchanges two literals of a clause.
     #[inline]
     pub fn swap(&mut self, at: usize, i: usize, j: usize)
@@ -194,8 +160,8 @@ impl Regions {
     }
 
     /// Adds a clause under the next name.
-    pub fn push(&mut self, lits: &[Lit], extras: Extras) -> Result<(), NoMemory>
-        ensures ok { OnOk result (self.new ≡ with_cell self.old (held_cell lits.now extras.first extras.second extras.marked)) }
+    pub fn push(&mut self, lits: &[Lit]) -> Result<(), NoMemory>
+        ensures ok { OnOk result (self.new ≡ with_cell self.old (fresh lits.now)) }
         ensures err { OnErr result (self.new ≡ self.old) }
     {
         let place = self.lits.len();
@@ -205,9 +171,9 @@ impl Regions {
         }
         let header = Header {
             place: place as u32,
-            size: 2 * lits.len() as u32 + extras.marked as u32,
-            first: extras.first,
-            second: extras.second,
+            size: 2 * lits.len() as u32,
+            first: 0,
+            second: 0,
         };
         if self.lits.extend_from_slice(lits).is_err() {
             return Err(NoMemory);
@@ -217,6 +183,14 @@ impl Regions {
             return Err(NoMemory);
         }
         Ok(())
+    }
+
+    /// Slides the clauses together, in order and with their links under new names.
+    pub fn slide(&mut self, names: &[u32])
+        ensures cells { self.new.cells ≡ gone ∷ packed names.now self.old.cells }
+        ensures used { self.new.used ≡ weights self.new.cells }
+    {
+        sliding::slide(&mut self.lits, &mut self.headers, names);
     }
 }
 

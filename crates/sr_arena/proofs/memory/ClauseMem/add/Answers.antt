@@ -1,4 +1,4 @@
-use Rattle.std.proofs.Common.{◌≡◌, false, arith, refl, ap}
+use Rattle.std.proofs.Common.{◌≡◌, arith, ap}
 use Rattle.sr_arena.specs.Layout.{with_cell}
 use Rattle.sr_arena.specs.Cells.{Memory, fresh}
 use Rattle.sr_arena.proofs.Weighing.{grown}

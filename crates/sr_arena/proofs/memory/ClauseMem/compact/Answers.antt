@@ -1,11 +1,10 @@
-use Rattle.std.proofs.Common.{◌≡◌, refl, sym, ◌∙◌, ap}
-use Rattle.sr_arena.specs.Cells.{Memory, gone, weights}
-use Rattle.sr_arena.specs.Naming.{packed}
+use Rattle.std.proofs.Common.{◌≡◌, sym, ◌∙◌, ap}
+use Rattle.sr_arena.specs.Cells.{Memory, weights}
 use Rattle.sr_arena.proofs.Compacting.{compacted, weighs_gone}
 use Rattle.sr_arena.proofs.memory.ClauseMem.compact.Goals as goal
 
 pub invariant_of-self : goal.invariant_of-self
-invariant_of-self c = (c.self.invariant.0 ∙ sym (ap weights c.in_ok-self-inside.ensures.cells ∙ weighs_gone c.as_slice.result.now c.self.inside.regions.cells), c.self.invariant.1, c.self.invariant.2)
+invariant_of-self c = (c.self.invariant.0 ∙ sym (ap weights c.slide.ensures.cells ∙ weighs_gone c.as_slice.result.now c.self.inside.regions.cells), c.self.invariant.1, c.self.invariant.2)
 
 pub returns-clause-ok : goal.returns-clause-ok
 returns-clause-ok c =
@@ -13,5 +12,5 @@ returns-clause-ok c =
     let names = c.set.ensures ∙ c.in_ok-names.ensures in
     let map = c.as_slice.ensures.value ∙ sym c.set.ensures in
     compacted c.args.self.now _ c.set.new.self (rw same at names)
-    (rw (same, map) at c.in_ok-self-inside.ensures.cells)
-    c.in_ok-self-inside.ensures.used (ap (λ (m : Memory). m.most) c.self.view_is)
+    (rw (same, map) at c.slide.ensures.cells)
+    c.slide.ensures.used (ap (λ (m : Memory). m.most) c.self.view_is)

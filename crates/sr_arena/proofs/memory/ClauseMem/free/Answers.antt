@@ -1,4 +1,4 @@
-use Rattle.std.proofs.Common.{arith, refl, sym, ◌∙◌}
+use Rattle.std.proofs.Common.{arith, sym}
 use Rattle.sr_arena.proofs.Weighing.{freed}
 use Rattle.sr_arena.proofs.memory.ClauseMem.free.Goals as goal
 

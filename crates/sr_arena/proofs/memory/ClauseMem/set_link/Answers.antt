@@ -1,4 +1,4 @@
-use Rattle.std.proofs.Common.{refl, ◌∙◌}
+use Rattle.std.proofs.Common.{◌∙◌}
 use Rattle.sr_arena.specs.Layout.{laid_at}
 use Rattle.sr_arena.proofs.Weighing.{kept, weight_linked}
 use Rattle.sr_arena.proofs.memory.ClauseMem.set_link.Goals as goal

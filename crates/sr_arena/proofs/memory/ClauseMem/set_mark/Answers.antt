@@ -1,5 +1,4 @@
 use Rattle.std.proofs.Common.{refl, ◌∙◌}
-use Rattle.sr_arena.specs.Layout.{laid_at}
 use Rattle.sr_arena.proofs.Weighing.{kept}
 use Rattle.sr_arena.proofs.memory.ClauseMem.set_mark.Goals as goal
 

@@ -1,5 +1,5 @@
 use Rattle.std.proofs.Common.{refl}
-use Rattle.sr_arena.specs.declared.regions.Header.{Header}
+use Rattle.sr_arena.specs.declared.headers.Header.{Header}
 use Rattle.sr_arena.specs.declared.references.Side.TheVariants.{First, Second}
 use Rattle.sr_arena.specs.Layout.{laid_at}
 use Rattle.sr_arena.specs.Links.{with_link}

@@ -1,6 +1,6 @@
 use Rattle.std.proofs.Common.{◌+◌, ◌*◌, ◌/◌, Bool, refl}
 use mir.Val.{bool_byte}
-use Rattle.sr_arena.specs.declared.regions.Header.{Header}
+use Rattle.sr_arena.specs.declared.headers.Header.{Header}
 use Rattle.sr_arena.specs.Cells.{Cell}
 use Rattle.sr_arena.specs.Layout.{laid_at}
 use Rattle.sr_arena.proofs.Laying.{rewrites, size_half, size_mark}
