@@ -5,11 +5,13 @@
 
 mod chains;
 mod checker;
+mod dead;
 mod groups;
 mod live;
 mod marks;
 mod meeting;
 mod pages;
+mod storage;
 #[cfg(test)]
 mod tests;
 mod walk;
