@@ -1,5 +1,5 @@
 -- Lemmas on what a checker keeps.
-use Rattle.std.proofs.Common.{◌≡◌, ℕ, ◌+◌, ◌<◌, ◌≤◌, ◌==◌, false, List, [], ◌∷◌, ◌++◌, length, get_or, take, refl, sym, ◌∙◌, ap, subst, arith, None}
+use Rattle.std.proofs.Common.{◌≡◌, ℕ, ◌+◌, ◌<◌, ◌≤◌, ◌==◌, true, false, List, [], ◌∷◌, ◌++◌, length, get_or, take, refl, sym, ◌∙◌, ap, subst, arith, None}
 use Rattle.std.proofs.lemmas.List.{take_more, length-take-le}
 use Rattle.std.proofs.lemmas.List.Sums.{sum_by-cons, sum_by_push, sum_by-take-le}
 use Rattle.std.proofs.lemmas.Bool.Decides.{nat_tests}
@@ -11,6 +11,8 @@ use Rattle.sr_check.specs.declared.meeting.Scratch.{Scratch}
 use Rattle.sr_check.specs.Trail.{Covers, CoversAll, CoversClauses}
 use Rattle.sr_check.specs.Ready.{IsReady}
 use Rattle.sr_check.specs.Checking.{AreBelow, KeepsChecking}
+use Rattle.sr_check.specs.Occurring.{under, AreUnder, KeepsListed}
+use Rattle.sr_check.specs.Candidates.{RiseFrom}
 use Rattle.sr_check.proofs.Marking.{by_test}
 use Rattle.sr_check.proofs.Following.{covered_more, clauses_more}
 
@@ -70,10 +72,38 @@ cells_without ids (p ∷ ps) =
     (λ t. rw t (rw all (omega (arith, rest))))
     (λ f. rw f (rw (all, kept) (omega (arith, rest))))
 
+-- numbers that rise
+rise_more : (low high : ℕ) (live : Numbered) → low ≤ high → RiseFrom high live → RiseFrom low live
+rise_more low high [] h r = tt
+rise_more low high (p ∷ ps) h r = (omega (arith, r.0), r.1)
+
+pub rising_without : (low : ℕ) (ids : List ℕ) (live : Numbered) → RiseFrom low live → RiseFrom low (without ids live)
+rising_without low ids [] r = tt
+rising_without low ids (p ∷ ps) r = by_test (holds_number p.0 ids)
+    (λ t. rw t (rise_more low (p.0 + 1) (without ids ps) (omega (arith, r.0)) (rising_without (p.0 + 1) ids ps r.1)))
+    (λ f. rw f (r.0, rising_without (p.0 + 1) ids ps r.1))
+
+pub rising_push : (low : ℕ) (live : Numbered) (n bound : ℕ) (c : List Literal) → RiseFrom low live → AreBelow bound live → low ≤ n → bound ≤ n → RiseFrom low (live ++ (n, c) ∷ [])
+rising_push low [] n bound c r b le lt = (le, tt)
+rising_push low (p ∷ ps) n bound c r b le lt = (r.0, rising_push (p.0 + 1) ps n bound c r.1 b.1 (omega (arith, b.0)) lt)
+
+numbered_rise : (low n : ℕ) (f : List (List Literal)) → low ≤ n → RiseFrom low (numbered_from n f)
+numbered_rise low n [] h = tt
+numbered_rise low n (c ∷ f) h = (h, numbered_rise (n + 1) (n + 1) f (omega arith))
+
+-- the lists of what is left
+under_without : (lists : Literal → List ℕ) (ids : List ℕ) (live : Numbered) → AreUnder lists live → AreUnder lists (without ids live)
+under_without lists ids [] u = tt
+under_without lists ids (p ∷ ps) u = by_test (holds_number p.0 ids)
+    (λ t. rw t (under_without lists ids ps u.1))
+    (λ f. rw f (u.0, under_without lists ids ps u.1))
+
 pub keeps_without : (most : ℕ) (live : Numbered) (last : ℕ) (scratch : Scratch) (ids : List ℕ) → KeepsChecking most live last scratch → KeepsChecking most (without ids live) last scratch
 keeps_without most live last scratch ids k = record {
   ready = k.ready;
   below = below_without (last + 1) ids live k.below;
+  rising = rising_without 0 ids live k.rising;
+  lists = λ b. under_without (under scratch.lists) ids live (k.lists b);
   room = covered_without scratch.marks.room ids live k.room;
   cells = omega (arith, k.cells, cells_without ids live);
   limit = k.limit;
@@ -81,19 +111,23 @@ keeps_without most live last scratch ids k = record {
 
 -- a clause under a new number
 pub keeps_push : (most : ℕ) (live : Numbered) (last id : ℕ) (lits : List Literal) (old new : Scratch) → KeepsChecking most live last old → last < id → IsReady new → old.marks.room ≤ new.marks.room → CoversAll new.marks.room lits
-    → cells_of (clauses live) + clause_cells lits ≤ most → KeepsChecking most (live ++ (id, lits) ∷ []) id new
-keeps_push most live last id lits old new k lt ready room covered fits = record {
+    → KeepsListed new.lists (live ++ (id, lits) ∷ []) → cells_of (clauses live) + clause_cells lits ≤ most → KeepsChecking most (live ++ (id, lits) ∷ []) id new
+keeps_push most live last id lits old new k lt ready room covered lists fits = record {
   ready = ready;
   below = below_push live id (id + 1) lits (below_more live (last + 1) (id + 1) (omega arith) k.below) (omega arith);
+  rising = rising_push 0 live id (last + 1) lits k.rising k.below (omega arith) (omega arith);
+  lists = lists;
   room = rw (clauses-push live id lits) (clauses_push new.marks.room (clauses live) lits (clauses_more old.marks.room new.marks.room (clauses live) room k.room) covered);
   cells = omega (arith, fits, cells_push live id lits);
   limit = k.limit;
 }
 
-pub keeps_room : (most : ℕ) (live : Numbered) (last : ℕ) (old new : Scratch) → KeepsChecking most live last old → IsReady new → old.marks.room ≤ new.marks.room → KeepsChecking most live last new
-keeps_room most live last old new k ready room = record {
+pub keeps_room : (most : ℕ) (live : Numbered) (last : ℕ) (old new : Scratch) → KeepsChecking most live last old → IsReady new → old.marks.room ≤ new.marks.room → KeepsListed new.lists live → KeepsChecking most live last new
+keeps_room most live last old new k ready room lists = record {
   ready = ready;
   below = k.below;
+  rising = k.rising;
+  lists = lists;
   room = clauses_more old.marks.room new.marks.room (clauses live) room k.room;
   cells = k.cells;
   limit = k.limit;
@@ -146,11 +180,13 @@ added_more f i c live live' room room' h e a put le covered =
     }
 
 -- a new checker
-pub keeps_new : (most : ℕ) (f : List (List Literal)) (live : Numbered) (count : ℕ) (scratch : Scratch) → live ≡ numbered_from 1 f → count ≡ length f → IsReady scratch → CoversClauses scratch.marks.room (clauses live) → cells_of f ≤ most → most ≤ 268435456
+pub keeps_new : (most : ℕ) (f : List (List Literal)) (live : Numbered) (count : ℕ) (scratch : Scratch) → live ≡ numbered_from 1 f → count ≡ length f → IsReady scratch → scratch.lists.built ≡ false → CoversClauses scratch.marks.room (clauses live) → cells_of f ≤ most → most ≤ 268435456
     → KeepsChecking most live count scratch
-keeps_new most f live count scratch is n ready covered fits limit = record {
+keeps_new most f live count scratch is n ready bare covered fits limit = record {
   ready = ready;
   below = rw (is, n) (subst (λ k. AreBelow k (numbered_from 1 f)) (omega arith) (numbered_below 1 f));
+  rising = rw is (numbered_rise 0 1 f (omega arith));
+  lists = λ b. let c : false ≡ true = sym bare ∙ b in absurd cc;
   room = covered;
   cells = let all : cells_of (clauses live) ≡ cells_of f = ap (λ x. cells_of (clauses x)) is ∙ ap cells_of (numbered_clauses 1 f) in omega (arith, all);
   limit = limit;

@@ -9,3 +9,6 @@ pub mod Following
 pub mod Grouping
 pub mod Fitting
 pub mod Checks
+pub mod Entering
+pub mod Gathering
+pub mod Choosing

@@ -10,6 +10,8 @@ use Rattle.sr_model.specs.declared.verdict.Verdict.{Verdict}
 use Rattle.sr_check.specs.declared.meeting.Scratch.{Scratch}
 use Rattle.sr_check.specs.Storage.{Stored}
 use Rattle.sr_check.specs.Ready.{IsReady}
+use Rattle.sr_check.specs.Occurring.{KeepsListed}
+use Rattle.sr_check.specs.Candidates.{AreRising}
 use Rattle.sr_check.specs.Trail.{CoversClauses}
 
 pub record Checking : Type 0 where
@@ -48,6 +50,8 @@ AreBelow bound (p ∷ ps) = (p.0 < bound) × AreBelow bound ps
 pub record KeepsChecking (most : ℕ) (live : Numbered) (last : ℕ) (scratch : Scratch) : Type 0 where
   pub ready : IsReady scratch
   pub below : AreBelow (last + 1) live
+  pub rising : AreRising live
+  pub lists : KeepsListed scratch.lists live
   pub room : CoversClauses scratch.marks.room (clauses live)
   pub cells : cells_of (clauses live) ≤ most
   pub limit : most ≤ 268435456

@@ -3,5 +3,7 @@ pub mod Trail
 pub mod Storage
 pub mod Ends
 pub mod Indexing
+pub mod Occurring
+pub mod Candidates
 pub mod Ready
 pub mod Checking

@@ -10,6 +10,7 @@ ghost use Rattle.sr_check.specs.Trail.{CoversClauses};
 
 use crate::marks::{Marks, cover_all};
 use crate::meeting::{Meet, Scratch, meet_step};
+use crate::occurrences::Occurrences;
 use crate::pages::Table;
 use crate::storage::Storage;
 use sr_arena::ClauseMem;
@@ -19,6 +20,9 @@ use sr_wit::{Formula, LsrItem, Step};
 use std::alloc::Global;
 use std::marker::Model;
 use thiserror::Error;
+
+/// The entries in the lists of clauses by literal that are let be however few cells the live clauses take.
+const SLACK: u64 = 65_536;
 
 /// Why an item isn't taken. The checker is then as it was.
 #[derive(Clone, Copy, Debug, PartialEq, Eq, Error)]
@@ -104,6 +108,8 @@ impl Checker {
                 alloc,
                 marks,
                 index,
+                lists: Occurrences::new(alloc),
+                numbers: Vec::new(alloc),
                 left: Items::new(alloc),
             },
         })
@@ -194,7 +200,9 @@ impl Checker {
             return Err(TakeStop::Cells);
         }
         cover_all(&mut self.scratch.marks, lits)?;
+        self.scratch.lists.enter(id, lits)?;
         self.live.add_last(id, lits)?;
+        self.scratch.lists.limit(2 * self.live.cells() + SLACK);
         Ok(())
     }
 

@@ -3,6 +3,7 @@
 //! It takes the items of a proof one by one, and keeps the clauses that are live and the verdict.
 #![tactic(auto)]
 
+mod candidates;
 mod chains;
 mod checker;
 mod dead;
@@ -10,6 +11,7 @@ mod groups;
 mod live;
 mod marks;
 mod meeting;
+mod occurrences;
 mod pages;
 mod storage;
 #[cfg(test)]

@@ -5,13 +5,17 @@ ghost use Rattle.sr_model.specs.Chain.{clauses};
 ghost use Rattle.sr_model.specs.Meeting.{no_groups, witness_meets, meets_over, meets};
 ghost use Rattle.sr_check.specs.Indexing.{IsClear, IsIndex};
 ghost use Rattle.sr_check.specs.Ready.{IsReady};
+ghost use Rattle.sr_check.specs.Occurring.{KeepsListed};
+ghost use Rattle.sr_check.specs.Candidates.{AreRising};
 ghost use Rattle.sr_check.specs.Trail.{CoversClauses};
 ghost use Rattle.sr_check.specs.Ends.{meeting_of};
 
+use crate::candidates::candidates;
 use crate::chains::{End, refute};
 use crate::groups::{build, forget};
 use crate::live::LiveClauses;
 use crate::marks::Marks;
+use crate::occurrences::Occurrences;
 use crate::pages::Table;
 use crate::witness::{Trial, meet_witness};
 use sr_base::{Cause, Lit, LitList, NoMemory};
@@ -25,13 +29,16 @@ pub enum Meet {
     Unmet(Cause),
 }
 
-/// What is needed besides the clauses while a step is met: marks, a table for its groups, and room for what is left of
-/// a clause. Marks and table are clear between steps.
+/// What is needed besides the clauses while a step is met: marks, a table for its groups, lists that tell the clauses of
+/// a literal, and room for the numbers of clauses and for what is left of a clause. Marks and table are clear between
+/// steps.
 #[derive(Drop)]
 pub struct Scratch {
     pub alloc: Global,
     pub marks: Marks,
     pub index: Table,
+    pub lists: Occurrences,
+    pub numbers: Vec<u32>,
     pub left: LitList,
 }
 
@@ -45,9 +52,12 @@ pub fn meet_step(
 ) -> Result<Meet, NoMemory>
     requires clear { IsReady scratch.old }
     requires room { CoversClauses scratch.old.marks.room (clauses live.now) }
+    requires rising { AreRising live.now }
+    requires lists { KeepsListed scratch.old.lists live.now }
     ensures met { IfOk result (λ m. meets strict live.now last step.now ≡ meeting_of m) }
     ensures clear { IsReady scratch.new }
     ensures room { scratch.old.marks.room ≤ scratch.new.marks.room }
+    ensures lists { KeepsListed scratch.new.lists live.now }
 {
     if step.id() <= last {
         return Ok(Meet::Unmet(Cause::NotNew));
@@ -66,9 +76,12 @@ fn meet_over(
 ) -> Result<Meet, NoMemory>
     requires clear { IsReady scratch.old }
     requires room { CoversClauses scratch.old.marks.room (clauses live.now) }
+    requires rising { AreRising live.now }
+    requires lists { KeepsListed scratch.old.lists live.now }
     ensures met { IfOk result (λ m. meets_over strict live.now step.now ≡ meeting_of m) }
     ensures clear { IsClear scratch.new.index }
     ensures room { scratch.old.marks.room ≤ scratch.new.marks.room }
+    ensures lists { KeepsListed scratch.new.lists live.now }
 {
     let lits = step.clause().lits();
     let hints = step.prefix().as_slice();
@@ -103,10 +116,13 @@ fn meet_by_witness(
     requires clear { IsClear scratch.old.index }
     requires no_pair { has_pair scratch.old.marks.lits ≡ false }
     requires room { CoversClauses scratch.old.marks.room (clauses live.now) }
+    requires rising { AreRising live.now }
+    requires lists { KeepsListed scratch.old.lists live.now }
     requires pivot { IsPivot pivot step.now.clause }
     ensures met { IfOk result (λ m. witness_meets strict live.now scratch.old.marks.lits (substitution_for step.now.clause step.now.witness) step.now.groups ≡ meeting_of m) }
     ensures clear { IsClear scratch.new.index }
     ensures room { scratch.old.marks.room ≤ scratch.new.marks.room }
+    ensures lists { KeepsListed scratch.new.lists live.now }
 {
     let groups = step.groups().as_slice();
     let met = match build(&mut scratch.index, live, groups) {
@@ -128,10 +144,13 @@ fn try_witness(
     requires index { IsIndex scratch.old.index live.now step.now.groups }
     requires no_pair { has_pair scratch.old.marks.lits ≡ false }
     requires room { CoversClauses scratch.old.marks.room (clauses live.now) }
+    requires rising { AreRising live.now }
+    requires lists { KeepsListed scratch.old.lists live.now }
     requires pivot { IsPivot pivot step.now.clause }
     ensures met { IfOk result (λ m. witness_meets strict live.now scratch.old.marks.lits (substitution_for step.now.clause step.now.witness) step.now.groups ≡ meeting_of m) }
     ensures index { scratch.new.index ≡ scratch.old.index }
     ensures room { scratch.old.marks.room ≤ scratch.new.marks.room }
+    ensures lists { KeepsListed scratch.new.lists live.now }
 {
     let groups = step.groups().as_slice();
     match step.witness() {
@@ -154,10 +173,15 @@ fn try_subst(
     requires index { IsIndex scratch.old.index live.now groups.now }
     requires no_pair { has_pair scratch.old.marks.lits ≡ false }
     requires room { CoversClauses scratch.old.marks.room (clauses live.now) }
+    requires rising { AreRising live.now }
+    requires lists { KeepsListed scratch.old.lists live.now }
     ensures met { IfOk result (λ m. witness_meets strict live.now scratch.old.marks.lits (substitution subst.now) groups.now ≡ meeting_of m) }
     ensures index { scratch.new.index ≡ scratch.old.index }
     ensures room { scratch.old.marks.room ≤ scratch.new.marks.room }
+    ensures lists { KeepsListed scratch.new.lists live.now }
 {
+    scratch.lists.build(live)?;
+    candidates(&scratch.lists, subst, &mut scratch.numbers)?;
     let trial = Trial {
         strict,
         live,
@@ -165,5 +189,10 @@ fn try_subst(
         groups,
         index: &scratch.index,
     };
-    meet_witness(&trial, &mut scratch.marks, &mut scratch.left)
+    meet_witness(
+        &trial,
+        &scratch.numbers,
+        &mut scratch.marks,
+        &mut scratch.left,
+    )
 }

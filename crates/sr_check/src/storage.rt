@@ -76,6 +76,13 @@ impl Storage {
         self.last
     }
 
+    /// The cells in which the live clauses are held.
+    pub fn cells(&self) -> u64
+        ensures { result ≡ cells_of (clauses self.now.clauses) }
+    {
+        self.mem.held_cells() as u64
+    }
+
     /// Whether a clause fits in the limit of cells.
     pub fn has_room(&self, lits: &[Lit]) -> bool
         ensures { IsTrue result ↔ (cells_of (clauses self.now.clauses) + clause_cells lits.now ≤ self.now.most) }

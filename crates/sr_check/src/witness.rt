@@ -4,7 +4,9 @@ ghost use Rattle.std.specs.Prelude.{◌≡◌, ◌≤◌, [], false, cond, IfOk}
 ghost use Rattle.sr_model.specs.Substitution.{has_pair, substitution, reduction};
 ghost use Rattle.sr_model.specs.Chain.{clauses};
 ghost use Rattle.sr_model.specs.Meeting.{needs_hints, left_meets, all_left_meet, groups_fit, witness_meets, met};
+ghost use Rattle.std.specs.List.Sorted.{IsNonDecreasing};
 ghost use Rattle.sr_check.specs.Trail.{CoversClauses};
+ghost use Rattle.sr_check.specs.Candidates.{AreRising, HoldsLeft, number_meets};
 ghost use Rattle.sr_check.specs.Indexing.{IsIndex, IsLive};
 ghost use Rattle.sr_check.specs.Ends.{meeting_of};
 
@@ -27,18 +29,27 @@ pub struct Trial<'a> {
     pub index: &'a Table,
 }
 
-/// How a step is met by its witness. The marks hold what the prefix reached, and keep it.
-pub fn meet_witness(trial: &Trial, marks: &mut Marks, left: &mut LitList) -> Result<Meet, NoMemory>
+/// How a step is met by its witness, with the numbers of the clauses of which it may leave something. The marks hold what
+/// the prefix reached, and keep it.
+pub fn meet_witness(
+    trial: &Trial,
+    numbers: &[u32],
+    marks: &mut Marks,
+    left: &mut LitList,
+) -> Result<Meet, NoMemory>
     requires no_pair { has_pair marks.old.lits ≡ false }
     requires room { CoversClauses marks.old.room (clauses trial.now.live.now) }
     requires index { IsIndex trial.now.index.now trial.now.live.now trial.now.groups.now }
+    requires rising { AreRising trial.now.live.now }
+    requires left { HoldsLeft (substitution trial.now.subst.now) numbers.now trial.now.live.now }
+    requires sorted { IsNonDecreasing numbers.now }
     ensures met { IfOk result (λ m. witness_meets trial.now.strict trial.now.live.now marks.old.lits (substitution trial.now.subst.now) trial.now.groups.now ≡ meeting_of m) }
     ensures room { marks.old.room ≤ marks.new.room }
 {
     if let Meet::Unmet(cause) = fit_groups(trial, marks, left)? {
         return Ok(Meet::Unmet(cause));
     }
-    meet_all(trial, marks, left)
+    meet_all(trial, numbers, marks, left)
 }
 
 /// Strict checking asks of each group that it is the first for its clause, and that the clause is live and needs it.
@@ -90,21 +101,51 @@ fn needs(
     Ok(!closes)
 }
 
-/// How the live clauses are met, in order.
-fn meet_all(trial: &Trial, marks: &mut Marks, left: &mut LitList) -> Result<Meet, NoMemory>
+/// How the live clauses are met, in order: those of the numbers, as nothing is left of the others.
+fn meet_all(
+    trial: &Trial,
+    numbers: &[u32],
+    marks: &mut Marks,
+    left: &mut LitList,
+) -> Result<Meet, NoMemory>
     requires no_pair { has_pair marks.old.lits ≡ false }
     requires room { CoversClauses marks.old.room (clauses trial.now.live.now) }
     requires index { IsIndex trial.now.index.now trial.now.live.now trial.now.groups.now }
+    requires rising { AreRising trial.now.live.now }
+    requires left { HoldsLeft (substitution trial.now.subst.now) numbers.now trial.now.live.now }
+    requires sorted { IsNonDecreasing numbers.now }
     ensures met { IfOk result (λ m. all_left_meet trial.now.strict trial.now.live.now marks.old.lits (substitution trial.now.subst.now) trial.now.groups.now trial.now.live.now ≡ meeting_of m) }
     ensures room { marks.old.room ≤ marks.new.room }
 {
-    let mut walk = trial.live.walk();
-    while let Some((number, lits)) = walk.next() {
-        if let Meet::Unmet(cause) = meet_one(trial, marks, left, number, lits)? {
+    for (i, number) in numbers.iter().enumerate() {
+        if i > 0 && *number == numbers[i - 1] {
+            continue;
+        }
+        if let Meet::Unmet(cause) = meet_number(trial, marks, left, *number)? {
             return Ok(Meet::Unmet(cause));
         }
     }
     Ok(Meet::Met)
+}
+
+/// How the clause of a number is met, if it is live.
+fn meet_number(
+    trial: &Trial,
+    marks: &mut Marks,
+    left: &mut LitList,
+    number: u32,
+) -> Result<Meet, NoMemory>
+    requires no_pair { has_pair marks.old.lits ≡ false }
+    requires room { CoversClauses marks.old.room (clauses trial.now.live.now) }
+    requires index { IsIndex trial.now.index.now trial.now.live.now trial.now.groups.now }
+    ensures met { IfOk result (λ m. number_meets trial.now.strict trial.now.live.now marks.old.lits (substitution trial.now.subst.now) trial.now.groups.now number ≡ meeting_of m) }
+    ensures lits { marks.new.lits ≡ marks.old.lits }
+    ensures room { marks.old.room ≤ marks.new.room }
+{
+    match trial.live.get(number) {
+        None => Ok(Meet::Met),
+        Some(lits) => meet_one(trial, marks, left, number, lits),
+    }
 }
 
 /// How one clause is met.

@@ -4,6 +4,7 @@ use Rattle.std.specs.Prelude.{nat_lt}
 use Rattle.std.proofs.lemmas.Bool.Decides.{nat_tests}
 use Rattle.sr_base.specs.Literal.{Literal}
 use Rattle.sr_base.specs.Limits.{LimitValues}
+use Rattle.sr_base.specs.declared.names.Form.{Form}
 use Rattle.sr_base.specs.declared.names.Which.TheVariants as which
 use Rattle.sr_model.specs.Texts.{Texts}
 use Rattle.sr_model.specs.Refutation.{has_empty}
@@ -72,10 +73,10 @@ reads_on n m o0 o1 o2 r only low high = record {
     after k (inr ne) = rw (only.elsewhere k ne) (r.later k)
 
 -- the answer on a formula whose proof was judged
-pub proof_judged : (lim : LimitValues) (strict : Bool) (f : List (List Literal)) (proof : Option Texts) (r : Checked) (t : Tally) (o0 o1 o2 : Outside) (o : Outcome)
+pub proof_judged : (lim : LimitValues) (form : Form) (strict : Bool) (f : List (List Literal)) (proof : Option Texts) (r : Checked) (t : Tally) (o0 o1 o2 : Outside) (o : Outcome)
     → cells_of f ≤ lim.cells → has_empty f ≡ false → o0.begun ≡ 1 → ReadsSlots 2 o0 o1 → OnlyReads 1 o1 o2 → r.outcome ≡ o → r.counts ≡ counts_by f t
-    → Judges lim strict f proof o t → HasFileCause which.Proof 1 o1 o2 o → JudgesFormula lim strict f proof r o0 o2
-proof_judged lim strict f proof r t o0 o1 o2 o fits full one reads only is_o is_k j cause =
+    → Judges lim form strict f proof o t → HasFileCause which.Proof 1 o1 o2 o → JudgesFormula lim form strict f proof r o0 o2
+proof_judged lim form strict f proof r t o0 o1 o2 o fits full one reads only is_o is_k j cause =
     let slots : ReadsSlots 2 o0 o2 = reads_on 1 2 o0 o1 o2 reads only (omega arith) (omega arith) in
     let small : nat_lt lim.cells (cells_of f) ≡ false = grind (arith, nat_tests) in
     record {
@@ -86,17 +87,17 @@ proof_judged lim strict f proof r t o0 o1 o2 o fits full one reads only is_o is_
     }
 
 -- a formula that isn't read
-pub formula_fault : (lim : LimitValues) (strict : Bool) (proof : Option Texts) (read : FormulaRead) (e : InFault) (k : Counts) (begun : ℕ)
-    → IsFaultOf read e → begun ≡ 1 → is_answer (outcome_by which.Formula e) ≡ true → ByFormula lim strict proof read (outcome_by which.Formula e) k begun
-formula_fault lim strict proof read (fault.Text kind place) k begun is b a = rw is (refl, b)
-formula_fault lim strict proof read (fault.Limit kind) k begun is b a = rw is (refl, b)
-formula_fault lim strict proof read fault.Source k begun is b a = absurd cc
-formula_fault lim strict proof read fault.NoMemory k begun is b a = absurd cc
+pub formula_fault : (lim : LimitValues) (form : Form) (strict : Bool) (proof : Option Texts) (read : FormulaRead) (e : InFault) (k : Counts) (begun : ℕ)
+    → IsFaultOf read e → begun ≡ 1 → is_answer (outcome_by which.Formula e) ≡ true → ByFormula lim form strict proof read (outcome_by which.Formula e) k begun
+formula_fault lim form strict proof read (fault.Text kind place) k begun is b a = rw is (refl, b)
+formula_fault lim form strict proof read (fault.Limit kind) k begun is b a = rw is (refl, b)
+formula_fault lim form strict proof read fault.Source k begun is b a = absurd cc
+formula_fault lim form strict proof read fault.NoMemory k begun is b a = absurd cc
 
 -- the formula holds the empty clause
-pub refuted_judged : (lim : LimitValues) (strict : Bool) (f : List (List Literal)) (proof : Option Texts) (r : Checked) (o0 : Outside)
-    → cells_of f ≤ lim.cells → has_empty f ≡ true → o0.begun ≡ 1 → r.outcome ≡ outcome.Verified None None → r.counts ≡ counts_of f [] → JudgesFormula lim strict f proof r o0 o0
-refuted_judged lim strict f proof r o0 fits full one is_o is_k =
+pub refuted_judged : (lim : LimitValues) (form : Form) (strict : Bool) (f : List (List Literal)) (proof : Option Texts) (r : Checked) (o0 : Outside)
+    → cells_of f ≤ lim.cells → has_empty f ≡ true → o0.begun ≡ 1 → r.outcome ≡ outcome.Verified None None → r.counts ≡ counts_of f [] → JudgesFormula lim form strict f proof r o0 o0
+refuted_judged lim form strict f proof r o0 fits full one is_o is_k =
     let small : nat_lt lim.cells (cells_of f) ≡ false = grind (arith, nat_tests) in
     record {
       answer = λ is. rw (small, full) (is_o, is_k, one);

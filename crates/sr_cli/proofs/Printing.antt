@@ -11,7 +11,7 @@ use Rattle.sr_emit.specs.declared.outcome.Outcome.TheVariants as outcome
 use Rattle.sr_emit.specs.declared.outcome.UsageKind.{UsageKind}
 use Rattle.sr_emit.specs.declared.counts.Counts.{Counts}
 use Rattle.sr_cli.specs.Words.{Said, Asked, refused, checks}
-use Rattle.sr_cli.specs.Files.{ReadsSlots, text_of}
+use Rattle.sr_cli.specs.Files.{ReadsSlots, text_of, proof_of}
 use Rattle.sr_cli.specs.Check.{Answers}
 use Rattle.sr_cli.specs.Run.{OnlyPrints, IsCutShort, Reports, Runs}
 
@@ -67,11 +67,11 @@ runs_refused lim a kind old new answered e zero only r = subst (λ x. Runs lim x
 
 -- files that are checked
 pub runs_check : (lim : LimitValues) (s : Said) (old mid new : Outside) (found answered : Outcome) (k : Counts) (shown : Option Counts)
-    → ReadsSlots 1 old mid ⊎ ReadsSlots 2 old mid → Answers lim s.strict (text_of lim (old.file s.formula)) (text_of lim (old.file s.proof)) found k mid.begun
+    → ReadsSlots 1 old mid ⊎ ReadsSlots 2 old mid → Answers lim s.proof_form s.strict (text_of lim (old.file s.formula)) (proof_of lim s.proof_form (old.file s.proof)) found k mid.begun
     → OnlyPrints mid new → shown ≡ (if s.stats then Some k else None) → Reports (report command.Check shown found) mid new found answered → Runs lim (checks s) old new answered
 runs_check lim s old mid new found answered k shown slots answers only is r = record {
   found = found;
   counts = k;
-  finds = subst (λ n. Answers lim s.strict (text_of lim (old.file s.formula)) (text_of lim (old.file s.proof)) found k n) (sym only.begun) answers;
+  finds = subst (λ n. Answers lim s.proof_form s.strict (text_of lim (old.file s.formula)) (proof_of lim s.proof_form (old.file s.proof)) found k n) (sym only.begun) answers;
   reports = subst (λ c. Reports (report command.Check c found) old new found answered) is (reports_from (report command.Check shown found) old mid new found answered (output_same old mid slots) r);
 }

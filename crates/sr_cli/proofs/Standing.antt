@@ -5,6 +5,7 @@ use Rattle.std.proofs.Common.{◌≡◌, ◌∙◌, ℕ, ◌+◌, Bool, true, fa
 use Rattle.std.proofs.lemmas.List.Sums.{sum_by-append}
 use Rattle.sr_base.specs.Literal.{Literal}
 use Rattle.sr_base.specs.Limits.{LimitValues}
+use Rattle.sr_base.specs.declared.names.Form.{Form}
 use Rattle.sr_base.specs.declared.names.Which.TheVariants as which
 use Rattle.sr_base.specs.declared.names.LimitKind.TheVariants.{Cells}
 use Rattle.sr_model.specs.Texts.{Texts}
@@ -14,7 +15,8 @@ use Rattle.sr_model.specs.Judging.{Item, Live, first_live, live_with, live_after
 use Rattle.sr_model.specs.declared.verdict.Verdict.TheVariants.{Going, Verified}
 use Rattle.sr_model.specs.Lsr as lsr
 use Rattle.sr_wit.specs.declared.fault.InFault.TheVariants as fault
-use Rattle.sr_model.specs.Lsr.{item, item_at, SpellItems}
+use Rattle.sr_model.specs.Lsr.{item}
+use Rattle.sr_model.specs.LsrBinary.{item_in, SpellItemsIn}
 use Rattle.sr_model.proofs.Taken.{going_append, going_has_no_empty, judge_going}
 use Rattle.sr_model.proofs.Judged.{verified_unsat}
 use Rattle.sr_check.specs.Checking.{Checking}
@@ -30,9 +32,9 @@ use Rattle.sr_cli.specs.Runs.{Stands, Tallies, Takes, Judges, counts_by}
 use Rattle.sr_cli.specs.declared.proof.Tally.{Tally}
 
 -- before the first item
-pub stands_first : (lim : LimitValues) (strict : Bool) (f : List (List Literal)) (start' : Option Texts) (c : Checking) → has_empty f ≡ false
-    → c ≡ record { strict = strict; most = lim.cells; state = start f } → Stands lim strict f start' start' c (record { steps = 0; hints = 0 })
-stands_first lim strict f start' c full fresh = record {
+pub stands_first : (lim : LimitValues) (form : Form) (strict : Bool) (f : List (List Literal)) (start' : Option Texts) (c : Checking) → has_empty f ≡ false
+    → c ≡ record { strict = strict; most = lim.cells; state = start f } → Stands lim form strict f start' start' c (record { steps = 0; hints = 0 })
+stands_first lim form strict f start' c full fresh = record {
   items = [];
   pivots = tt;
   going = rw full refl;
@@ -73,9 +75,9 @@ fits_append : (most : ℕ) (lv : Live) (items : List Item) (it : Item) → Cells
 fits_append most lv [] it h g = (g, tt)
 fits_append most lv (x ∷ items) it h g = (h.0, fits_append most (live_with lv x) items it h.1 g)
 
-spell_append : (lim : LimitValues) (all mid rest : Texts) (items : List Item) (it : Item) → SpellItems lim all items mid → item_at lim mid ≡ item it rest → SpellItems lim all (items ++ it ∷ []) rest
-spell_append lim all mid rest [] it s e = (rest, ap (item_at lim) s ∙ e, refl)
-spell_append lim all mid rest (x ∷ items) it s e = (s.0, s.1, spell_append lim s.0 mid rest items it s.2 e)
+spell_append : (form : Form) (lim : LimitValues) (all mid rest : Texts) (items : List Item) (it : Item) → SpellItemsIn form lim all items mid → item_in form lim mid ≡ item it rest → SpellItemsIn form lim all (items ++ it ∷ []) rest
+spell_append form lim all mid rest [] it s e = (rest, ap (item_in form lim) s ∙ e, refl)
+spell_append form lim all mid rest (x ∷ items) it s e = (s.0, s.1, spell_append form lim s.0 mid rest items it s.2 e)
 
 judged_append : (strict : Bool) (f : List (List Literal)) (items : List Item) (it : Item) → judge strict f items ≡ Going
     → judge strict f (items ++ it ∷ []) ≡ verdict_of it (item_meets strict (live_after (first_live f) items) it) Going
@@ -84,9 +86,9 @@ judged_append strict f items it e =
     judge_going strict f (items ++ it ∷ []) n ∙ going_append strict (first_live f) items (it ∷ []) (sym (judge_going strict f items n) ∙ e)
 
 -- after one more item
-pub stands_more : (lim : LimitValues) (strict : Bool) (f : List (List Literal)) (start' now new : Option Texts) (c c' : Checking) (t u : Tally) (x : LsrItem)
-    → Stands lim strict f start' now c t → GivesItem lim now new (Ok (Some x)) → ItemHasPivot (item_of x) → Takes c c' t u (item_of x) None → Stands lim strict f start' new c' u
-stands_more lim strict f start' now new c c' t u x s gives pivot takes =
+pub stands_more : (lim : LimitValues) (form : Form) (strict : Bool) (f : List (List Literal)) (start' now new : Option Texts) (c c' : Checking) (t u : Tally) (x : LsrItem)
+    → Stands lim form strict f start' now c t → GivesItem form lim now new (Ok (Some x)) → ItemHasPivot (item_of x) → Takes c c' t u (item_of x) None → Stands lim form strict f start' new c' u
+stands_more lim form strict f start' now new c c' t u x s gives pivot takes =
     let it : Item = item_of x in
     let lv : Live = live_after (first_live f) s.items in
     let none : by_item lim.cells strict lv it ≡ None = subst (λ (k : Checking). by_item k.most k.strict k.state.live it ≡ None) s.checker takes.0 in
@@ -103,7 +105,7 @@ stands_more lim strict f start' now new c c' t u x s gives pivot takes =
       spelled = λ all h.
           let r = s.spelled all h in
           let i = gives r.0 r.1 in
-          (i.0, i.1, spell_append lim all r.0 i.0 s.items it r.2 i.2);
+          (i.0, i.1, spell_append form lim all r.0 i.0 s.items it r.2 i.2);
     }
   where
     steps_push : (items : List Item) (it : Item) → steps_of items + item_steps it ≡ steps_of (items ++ it ∷ [])
@@ -117,10 +119,10 @@ is_verified (outcome.Verified made core) = true
 is_verified o = false
 
 -- what follows the items decides
-ends_by : (lim : LimitValues) (strict : Bool) (f : List (List Literal)) (items : List Item) (it : Item) (rest : Texts) (mid : Texts) (o : Outcome) (t u : Tally)
-    → item_at lim mid ≡ item it rest → by_item lim.cells strict (live_after (first_live f) items) it ≡ Some o
-    → (o ≡ outcome.Verified None None → counts_by f u ≡ counts_of f (items ++ it ∷ [])) → EndsAt lim strict f items (item_at lim mid) o (counts_by f u)
-ends_by lim strict f items it rest mid o t u e b k = subst (λ r. EndsAt lim strict f items r o (counts_by f u)) (sym e) (b, k)
+ends_by : (lim : LimitValues) (form : Form) (strict : Bool) (f : List (List Literal)) (items : List Item) (it : Item) (rest : Texts) (mid : Texts) (o : Outcome) (t u : Tally)
+    → item_in form lim mid ≡ item it rest → by_item lim.cells strict (live_after (first_live f) items) it ≡ Some o
+    → (o ≡ outcome.Verified None None → counts_by f u ≡ counts_of f (items ++ it ∷ [])) → EndsAt lim strict f items (item_in form lim mid) o (counts_by f u)
+ends_by lim form strict f items it rest mid o t u e b k = subst (λ r. EndsAt lim strict f items r o (counts_by f u)) (sym e) (b, k)
 
 verified_item : (most : ℕ) (strict : Bool) (lv : Live) (it : Item) → by_item most strict lv it ≡ Some (outcome.Verified None None) → verdict_of it (item_meets strict lv it) Going ≡ Verified
 verified_item most strict lv it e = at (item_meets strict lv it) e
@@ -135,10 +137,10 @@ verified_item most strict lv it e = at (item_meets strict lv it) e
         go false x false z = let bad = rw (x, z) at e in absurd cc
 
 -- at an item with which judging ends
-pub stands_ends : (lim : LimitValues) (strict : Bool) (f : List (List Literal)) (start' now new : Option Texts) (c : Checking) (t u : Tally) (x : LsrItem) (o : Outcome)
-    → Stands lim strict f start' now c t → GivesItem lim now new (Ok (Some x)) → ItemHasPivot (item_of x)
-    → by_item c.most c.strict c.state.live (item_of x) ≡ Some o → (o ≡ outcome.Verified None None → Tallies t (item_of x) (Some u)) → Judges lim strict f start' o u
-stands_ends lim strict f start' now new c t u x o s gives pivot by counted =
+pub stands_ends : (lim : LimitValues) (form : Form) (strict : Bool) (f : List (List Literal)) (start' now new : Option Texts) (c : Checking) (t u : Tally) (x : LsrItem) (o : Outcome)
+    → Stands lim form strict f start' now c t → GivesItem form lim now new (Ok (Some x)) → ItemHasPivot (item_of x)
+    → by_item c.most c.strict c.state.live (item_of x) ≡ Some o → (o ≡ outcome.Verified None None → Tallies t (item_of x) (Some u)) → Judges lim form strict f start' o u
+stands_ends lim form strict f start' now new c t u x o s gives pivot by counted =
     let it : Item = item_of x in
     let lv : Live = live_after (first_live f) s.items in
     let here : by_item lim.cells strict lv it ≡ Some o = subst (λ (k : Checking). by_item k.most k.strict k.state.live it ≡ Some o) s.checker by in
@@ -152,7 +154,7 @@ stands_ends lim strict f start' now new c t u x o s gives pivot by counted =
             spelled = r.2;
             going = s.going;
             fits = s.fits;
-            ends = ends_by lim strict f s.items it i.0 r.0 o t u i.2 here (λ v. counts (counted v));
+            ends = ends_by lim form strict f s.items it i.0 r.0 o t u i.2 here (λ v. counts (counted v));
           };
       sound = λ v.
           let judged : judge strict f (s.items ++ it ∷ []) ≡ Verified = judged_append strict f s.items it s.going ∙ verified_item lim.cells strict lv it (here ∙ ap Some v) in
@@ -166,17 +168,17 @@ stands_ends lim strict f start' now new c t u x o s gives pivot by counted =
         rw (steps, hints) refl
 
 -- the same, from what `take_item` says; want of memory judges nothing
-pub stands_judged : (lim : LimitValues) (strict : Bool) (f : List (List Literal)) (start' now new : Option Texts) (c c' : Checking) (t u : Tally) (x : LsrItem) (o : Outcome)
-    → Stands lim strict f start' now c t → GivesItem lim now new (Ok (Some x)) → ItemHasPivot (item_of x) → Takes c c' t u (item_of x) (Some o) → Judges lim strict f start' o u
-stands_judged lim strict f start' now new c c' t u x (outcome.Verified made core) s gives pivot k = stands_ends lim strict f start' now new c t u x (outcome.Verified made core) s gives pivot k.0 k.1
-stands_judged lim strict f start' now new c c' t u x (outcome.RejectedStep id y) s gives pivot k = stands_ends lim strict f start' now new c t u x (outcome.RejectedStep id y) s gives pivot k.0 k.1
-stands_judged lim strict f start' now new c c' t u x outcome.NoEmptyClause s gives pivot k = stands_ends lim strict f start' now new c t u x outcome.NoEmptyClause s gives pivot k.0 k.1
-stands_judged lim strict f start' now new c c' t u x (outcome.Usage y) s gives pivot k = stands_ends lim strict f start' now new c t u x (outcome.Usage y) s gives pivot k.0 k.1
-stands_judged lim strict f start' now new c c' t u x (outcome.Text w y z) s gives pivot k = stands_ends lim strict f start' now new c t u x (outcome.Text w y z) s gives pivot k.0 k.1
-stands_judged lim strict f start' now new c c' t u x (outcome.Limit w y made core) s gives pivot k = stands_ends lim strict f start' now new c t u x (outcome.Limit w y made core) s gives pivot k.0 k.1
-stands_judged lim strict f start' now new c c' t u x (outcome.SourceFault w) s gives pivot k = stands_ends lim strict f start' now new c t u x (outcome.SourceFault w) s gives pivot k.0 k.1
-stands_judged lim strict f start' now new c c' t u x (outcome.SinkFault w made core) s gives pivot k = stands_ends lim strict f start' now new c t u x (outcome.SinkFault w made core) s gives pivot k.0 k.1
-stands_judged lim strict f start' now new c c' t u x outcome.NoMemory s gives pivot k = record { answer = λ is. absurd cc; sound = λ v. absurd cc }
+pub stands_judged : (lim : LimitValues) (form : Form) (strict : Bool) (f : List (List Literal)) (start' now new : Option Texts) (c c' : Checking) (t u : Tally) (x : LsrItem) (o : Outcome)
+    → Stands lim form strict f start' now c t → GivesItem form lim now new (Ok (Some x)) → ItemHasPivot (item_of x) → Takes c c' t u (item_of x) (Some o) → Judges lim form strict f start' o u
+stands_judged lim form strict f start' now new c c' t u x (outcome.Verified made core) s gives pivot k = stands_ends lim form strict f start' now new c t u x (outcome.Verified made core) s gives pivot k.0 k.1
+stands_judged lim form strict f start' now new c c' t u x (outcome.RejectedStep id y) s gives pivot k = stands_ends lim form strict f start' now new c t u x (outcome.RejectedStep id y) s gives pivot k.0 k.1
+stands_judged lim form strict f start' now new c c' t u x outcome.NoEmptyClause s gives pivot k = stands_ends lim form strict f start' now new c t u x outcome.NoEmptyClause s gives pivot k.0 k.1
+stands_judged lim form strict f start' now new c c' t u x (outcome.Usage y) s gives pivot k = stands_ends lim form strict f start' now new c t u x (outcome.Usage y) s gives pivot k.0 k.1
+stands_judged lim form strict f start' now new c c' t u x (outcome.Text w y z) s gives pivot k = stands_ends lim form strict f start' now new c t u x (outcome.Text w y z) s gives pivot k.0 k.1
+stands_judged lim form strict f start' now new c c' t u x (outcome.Limit w y made core) s gives pivot k = stands_ends lim form strict f start' now new c t u x (outcome.Limit w y made core) s gives pivot k.0 k.1
+stands_judged lim form strict f start' now new c c' t u x (outcome.SourceFault w) s gives pivot k = stands_ends lim form strict f start' now new c t u x (outcome.SourceFault w) s gives pivot k.0 k.1
+stands_judged lim form strict f start' now new c c' t u x (outcome.SinkFault w made core) s gives pivot k = stands_ends lim form strict f start' now new c t u x (outcome.SinkFault w made core) s gives pivot k.0 k.1
+stands_judged lim form strict f start' now new c c' t u x outcome.NoMemory s gives pivot k = record { answer = λ is. absurd cc; sound = λ v. absurd cc }
 
 -- where no item is read
 ends_fault : (lim : LimitValues) (strict : Bool) (f : List (List Literal)) (items : List Item) (r : lsr.ItemRead) (e : InFault) (k : Counts)
@@ -192,9 +194,9 @@ never_verified w (fault.Limit kind) v = cc
 never_verified w fault.Source v = cc
 never_verified w fault.NoMemory v = cc
 
-pub stands_fault : (lim : LimitValues) (strict : Bool) (f : List (List Literal)) (start' now new : Option Texts) (c : Checking) (t : Tally) (e : InFault)
-    → Stands lim strict f start' now c t → GivesItem lim now new (Err e) → Judges lim strict f start' (outcome_by which.Proof e) t
-stands_fault lim strict f start' now new c t e s gives = record {
+pub stands_fault : (lim : LimitValues) (form : Form) (strict : Bool) (f : List (List Literal)) (start' now new : Option Texts) (c : Checking) (t : Tally) (e : InFault)
+    → Stands lim form strict f start' now c t → GivesItem form lim now new (Err e) → Judges lim form strict f start' (outcome_by which.Proof e) t
+stands_fault lim form strict f start' now new c t e s gives = record {
   answer = λ is all h.
       let r = s.spelled all h in
       record {
@@ -203,14 +205,14 @@ stands_fault lim strict f start' now new c t e s gives = record {
         spelled = r.2;
         going = s.going;
         fits = s.fits;
-        ends = ends_fault lim strict f s.items (item_at lim r.0) e (counts_by f t) (gives r.0 r.1) is;
+        ends = ends_fault lim strict f s.items (item_in form lim r.0) e (counts_by f t) (gives r.0 r.1) is;
       };
   sound = λ v. absurd (never_verified which.Proof e v);
 }
 
-pub stands_none : (lim : LimitValues) (strict : Bool) (f : List (List Literal)) (start' now new : Option Texts) (c : Checking) (t : Tally)
-    → Stands lim strict f start' now c t → GivesItem lim now new (Ok None) → Judges lim strict f start' outcome.NoEmptyClause t
-stands_none lim strict f start' now new c t s gives = record {
+pub stands_none : (lim : LimitValues) (form : Form) (strict : Bool) (f : List (List Literal)) (start' now new : Option Texts) (c : Checking) (t : Tally)
+    → Stands lim form strict f start' now c t → GivesItem form lim now new (Ok None) → Judges lim form strict f start' outcome.NoEmptyClause t
+stands_none lim form strict f start' now new c t s gives = record {
   answer = λ is all h.
       let r = s.spelled all h in
       record {

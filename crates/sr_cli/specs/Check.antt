@@ -4,6 +4,7 @@
 use Rattle.std.specs.Prelude.{◌≡◌, ℕ, ◌+◌, nat_lt, ◌&&◌, not, Bool, true, false, cond, List, [], ◌∷◌, ◌++◌, length, sum_by, Option, Some, None}
 use Rattle.sr_base.specs.Literal.{Literal}
 use Rattle.sr_base.specs.Limits.{LimitValues}
+use Rattle.sr_base.specs.declared.names.Form.{Form}
 use Rattle.sr_base.specs.declared.names.Which.TheVariants as which
 use Rattle.sr_base.specs.declared.names.LimitKind.TheVariants.{Cells}
 use Rattle.sr_model.specs.Texts.{Texts}
@@ -14,7 +15,8 @@ use Rattle.sr_model.specs.Meeting.{Step, Group, Meeting, met, unmet}
 use Rattle.sr_model.specs.Judging.{Item, stepped, dropped, Live, first_live, live_with, live_after, item_meets, item_number, ends_proof, judge, clause_cells, cells_of}
 use Rattle.sr_model.specs.Dimacs.{Formula, FormulaRead, spells, formula_at}
 use Rattle.sr_model.specs.Dimacs as cnf
-use Rattle.sr_model.specs.Lsr.{ItemRead, item, none, item_at, SpellItems}
+use Rattle.sr_model.specs.Lsr.{ItemRead, item, none}
+use Rattle.sr_model.specs.LsrBinary.{item_in, SpellItemsIn}
 use Rattle.sr_model.specs.Lsr as lsr
 use Rattle.sr_model.specs.declared.verdict.Verdict.TheVariants.{Going}
 use Rattle.sr_emit.specs.declared.outcome.Outcome.{Outcome}
@@ -73,24 +75,24 @@ EndsAt lim strict f items (lsr.misspells kind place) o k = o ≡ outcome.Text wh
 EndsAt lim strict f items (lsr.passes kind) o k = o ≡ outcome.Limit which.Proof kind None None
 
 -- the items at the front of the proof are met, none ends judging, and what follows does
-pub record ByProof (lim : LimitValues) (strict : Bool) (f : List (List Literal)) (proof : Texts) (o : Outcome) (k : Counts) : Type 0 where
+pub record ByProof (lim : LimitValues) (form : Form) (strict : Bool) (f : List (List Literal)) (proof : Texts) (o : Outcome) (k : Counts) : Type 0 where
   pub items : List Item
   pub rest : Texts
-  pub spelled : SpellItems lim proof items rest
+  pub spelled : SpellItemsIn form lim proof items rest
   pub going : judge strict f items ≡ Going
   pub fits : CellsFit lim.cells (first_live f) items
-  pub ends : EndsAt lim strict f items (item_at lim rest) o k
+  pub ends : EndsAt lim strict f items (item_in form lim rest) o k
 
 -- the clauses are too many, one is empty, or the proof is begun; so many files were begun
-abbrev pub ByClauses : LimitValues → Bool → Option Texts → List (List Literal) → Outcome → Counts → ℕ → Type 0
-ByClauses lim strict proof f o k begun = cond (nat_lt lim.cells (cells_of f)) ((o ≡ outcome.Limit which.Formula Cells None None) × (begun ≡ 1))
+abbrev pub ByClauses : LimitValues → Form → Bool → Option Texts → List (List Literal) → Outcome → Counts → ℕ → Type 0
+ByClauses lim form strict proof f o k begun = cond (nat_lt lim.cells (cells_of f)) ((o ≡ outcome.Limit which.Formula Cells None None) × (begun ≡ 1))
     (cond (has_empty f) ((o ≡ outcome.Verified None None) × (k ≡ counts_of f []) × (begun ≡ 1))
-    (((ts : Texts) → proof ≡ Some ts → ByProof lim strict f ts o k) × (begun ≡ 2)))
+    (((ts : Texts) → proof ≡ Some ts → ByProof lim form strict f ts o k) × (begun ≡ 2)))
 
-abbrev pub ByFormula : LimitValues → Bool → Option Texts → FormulaRead → Outcome → Counts → ℕ → Type 0
-ByFormula lim strict proof (spells f) o k begun = ByClauses lim strict proof f.clauses o k begun
-ByFormula lim strict proof (cnf.misspells kind place) o k begun = (o ≡ outcome.Text which.Formula kind place) × (begun ≡ 1)
-ByFormula lim strict proof (cnf.passes kind) o k begun = (o ≡ outcome.Limit which.Formula kind None None) × (begun ≡ 1)
+abbrev pub ByFormula : LimitValues → Form → Bool → Option Texts → FormulaRead → Outcome → Counts → ℕ → Type 0
+ByFormula lim form strict proof (spells f) o k begun = ByClauses lim form strict proof f.clauses o k begun
+ByFormula lim form strict proof (cnf.misspells kind place) o k begun = (o ≡ outcome.Text which.Formula kind place) × (begun ≡ 1)
+ByFormula lim form strict proof (cnf.passes kind) o k begun = (o ≡ outcome.Limit which.Formula kind None None) × (begun ≡ 1)
 
 -- the outcome speaks of the files: it isn't one of a failed call or of want of memory
 abbrev pub is_answer : Outcome → Bool
@@ -100,8 +102,8 @@ is_answer outcome.NoMemory = false
 is_answer o = true
 
 -- where the files are told, the outcome is the first event, and the counts are those of the proof
-abbrev pub Answers : LimitValues → Bool → Option Texts → Option Texts → Outcome → Counts → ℕ → Type 0
-Answers lim strict formula proof o k begun = is_answer o ≡ true → (ts : Texts) → formula ≡ Some ts → ByFormula lim strict proof (formula_at lim ts) o k begun
+abbrev pub Answers : LimitValues → Form → Bool → Option Texts → Option Texts → Outcome → Counts → ℕ → Type 0
+Answers lim form strict formula proof o k begun = is_answer o ≡ true → (ts : Texts) → formula ≡ Some ts → ByFormula lim form strict proof (formula_at lim ts) o k begun
 
 -- a verified formula has no solution
 abbrev pub VerifiedHasNoSolution : LimitValues → Option Texts → Outcome → Type 0

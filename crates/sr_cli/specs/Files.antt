@@ -1,10 +1,12 @@
 -- What a run does to the outside while it reads.
 use Rattle.std.specs.Prelude.{◌≡◌, ◌⊎◌, ℕ, ◌≤◌, ◌<◌, List, Option, None, option_map}
 use Rattle.sr_base.specs.Limits.{LimitValues}
+use Rattle.sr_base.specs.declared.names.Form.{Form}
 use Rattle.sr_base.specs.declared.names.Which.{Which}
 use Rattle.sr_base.specs.declared.names.Which.TheVariants as which
 use Rattle.sr_model.specs.Texts.{Texts}
 use Rattle.sr_model.specs.Tokens.{spelled}
+use Rattle.sr_model.specs.LsrBinary.{item_texts}
 use Rattle.sr_desk.specs.Outside.{Outside, SlotState, Rose}
 use Rattle.sr_wit.specs.declared.fault.InFault.{InFault}
 use Rattle.sr_wit.specs.declared.fault.InFault.TheVariants as fault
@@ -14,6 +16,10 @@ use Rattle.sr_emit.specs.declared.outcome.Outcome.TheVariants.{Usage, Text, Limi
 -- what the tokens of a file say, where its bytes are told
 abbrev pub text_of : LimitValues → Option (List ℕ) → Option Texts
 text_of lim file = option_map (spelled lim.bytes) file
+
+-- and those of a proof by hints
+abbrev pub proof_of : LimitValues → Form → Option (List ℕ) → Option Texts
+proof_of lim form file = option_map (item_texts form lim.bytes) file
 
 -- a slot was only read: what was written to it, and whether it may be written, are as they were
 abbrev pub IsOnlyRead : SlotState → SlotState → Type 0

@@ -11,7 +11,7 @@ use Rattle.sr_emit.specs.declared.outcome.Outcome.{Outcome}
 use Rattle.sr_emit.specs.declared.outcome.Outcome.TheVariants as outcome
 use Rattle.sr_emit.specs.declared.counts.Counts.{Counts}
 use Rattle.sr_cli.specs.Words.{Asked, refused, checks}
-use Rattle.sr_cli.specs.Files.{text_of}
+use Rattle.sr_cli.specs.Files.{text_of, proof_of}
 use Rattle.sr_cli.specs.Check.{Answers, VerifiedHasNoSolution, is_answer}
 
 -- standard output has the slot 8; nothing else changed
@@ -45,7 +45,7 @@ Reports bytes old new found answered = ((answered ≡ outcome.NoMemory) × ((new
 -- what is found: a refusal of the words, or what `check` answers on the files
 abbrev pub Finds : LimitValues → Outside → ℕ → Asked → Outcome → Counts → Type 0
 Finds lim old begun (refused kind) o k = is_answer o ≡ true → (o ≡ outcome.Usage kind) × (begun ≡ 0)
-Finds lim old begun (checks s) o k = Answers lim s.strict (text_of lim (old.file s.formula)) (text_of lim (old.file s.proof)) o k begun
+Finds lim old begun (checks s) o k = Answers lim s.proof_form s.strict (text_of lim (old.file s.formula)) (proof_of lim s.proof_form (old.file s.proof)) o k begun
 
 abbrev pub counts_asked : Asked → Counts → Option Counts
 counts_asked (refused kind) k = None

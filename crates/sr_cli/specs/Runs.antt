@@ -2,12 +2,13 @@
 use Rattle.std.specs.Prelude.{◌≡◌, ◌⊎◌, ℕ, ◌+◌, Bool, true, List, length, Option, Some, None}
 use Rattle.sr_base.specs.Literal.{Literal}
 use Rattle.sr_base.specs.Limits.{LimitValues}
+use Rattle.sr_base.specs.declared.names.Form.{Form}
 use Rattle.sr_base.specs.declared.names.Which.{Which}
 use Rattle.sr_base.specs.declared.names.Which.TheVariants as which
 use Rattle.sr_model.specs.Texts.{Texts}
 use Rattle.sr_model.specs.Assignment.{Unsat}
 use Rattle.sr_model.specs.Judging.{Item, first_live, live_with, live_after, judge, HavePivots}
-use Rattle.sr_model.specs.Lsr.{SpellItems}
+use Rattle.sr_model.specs.LsrBinary.{SpellItemsIn}
 use Rattle.sr_model.specs.declared.verdict.Verdict.TheVariants.{Going}
 use Rattle.sr_desk.specs.Outside.{Outside, Rose}
 use Rattle.sr_check.specs.Checking.{Checking}
@@ -20,7 +21,7 @@ use Rattle.sr_cli.specs.declared.check.Checked.{Checked}
 use Rattle.sr_cli.specs.declared.proof.Tally.{Tally}
 
 -- where judging stands after some items of a proof, all of them met, none of them the last
-pub record Stands (lim : LimitValues) (strict : Bool) (f : List (List Literal)) (start now : Option Texts) (c : Checking) (t : Tally) : Type 0 where
+pub record Stands (lim : LimitValues) (form : Form) (strict : Bool) (f : List (List Literal)) (start now : Option Texts) (c : Checking) (t : Tally) : Type 0 where
   pub items : List Item
   pub pivots : HavePivots items
   pub going : judge strict f items ≡ Going
@@ -28,7 +29,7 @@ pub record Stands (lim : LimitValues) (strict : Bool) (f : List (List Literal)) 
   pub checker : c ≡ record { strict = strict; most = lim.cells; state = record { live = live_after (first_live f) items; verdict = Going } }
   pub steps : t.steps ≡ steps_of items
   pub hints : t.hints ≡ hints_of items
-  pub spelled : (all : Texts) → start ≡ Some all → (rest : Texts) × (now ≡ Some rest) × SpellItems lim all items rest
+  pub spelled : (all : Texts) → start ≡ Some all → (rest : Texts) × (now ≡ Some rest) × SpellItemsIn form lim all items rest
 
 -- an item was counted, or the counts are at their ends
 abbrev pub Tallies : Tally → Item → Option Tally → Type 0
@@ -61,13 +62,13 @@ HasProofCause old new (outcome.Usage kind) = ⊥
 HasProofCause old new o = Unit {0}
 
 -- the proof was judged up to its last event
-pub record Judges (lim : LimitValues) (strict : Bool) (f : List (List Literal)) (start : Option Texts) (o : Outcome) (t : Tally) : Type 0 where
-  pub answer : is_answer o ≡ true → (all : Texts) → start ≡ Some all → ByProof lim strict f all o (counts_by f t)
+pub record Judges (lim : LimitValues) (form : Form) (strict : Bool) (f : List (List Literal)) (start : Option Texts) (o : Outcome) (t : Tally) : Type 0 where
+  pub answer : is_answer o ≡ true → (all : Texts) → start ≡ Some all → ByProof lim form strict f all o (counts_by f t)
   pub sound : o ≡ outcome.Verified None None → Unsat f
 
 -- what is answered on a formula that was read, with one file begun
-pub record JudgesFormula (lim : LimitValues) (strict : Bool) (f : List (List Literal)) (proof : Option Texts) (r : Checked) (old new : Outside) : Type 0 where
-  pub answer : is_answer r.outcome ≡ true → ByClauses lim strict proof f r.outcome r.counts new.begun
+pub record JudgesFormula (lim : LimitValues) (form : Form) (strict : Bool) (f : List (List Literal)) (proof : Option Texts) (r : Checked) (old new : Outside) : Type 0 where
+  pub answer : is_answer r.outcome ≡ true → ByClauses lim form strict proof f r.outcome r.counts new.begun
   pub sound : r.outcome ≡ outcome.Verified None None → Unsat f
   pub slots : ReadsSlots 1 old new ⊎ ReadsSlots 2 old new
   pub cause : HasProofCause old new r.outcome

@@ -12,10 +12,11 @@ use Rattle.sr_cli.specs.declared.words.CheckWords.{CheckWords}
 use Rattle.sr_cli.specs.declared.words.WordsStop.{WordsStop}
 use Rattle.sr_cli.specs.declared.words.WordsStop.TheVariants.{Refused, NoMemory}
 
--- a form, or text where none is named; proofs in binary aren't read yet
+-- a form, or text where none is named
 abbrev pub form_of : Option Text → Option Form
 form_of None = Some form.Text
-form_of (Some name) = if bytes_eq name (codes "text") then Some form.Text else None
+form_of (Some name) =
+    if bytes_eq name (codes "text") then Some form.Text else (if bytes_eq name (codes "binary") then Some form.Binary else None)
 
 abbrev pub is_on : Option Text → Bool
 is_on None = false

@@ -1,7 +1,7 @@
 // The command `check`: the formula, then the proof.
 ghost use Rattle.std.specs.Prelude.{◌≡◌, None};
 ghost use Rattle.sr_model.specs.Assignment.{Unsat};
-ghost use Rattle.sr_cli.specs.Files.{ReadsSlots, ReadsFiles, HasReadCause, text_of};
+ghost use Rattle.sr_cli.specs.Files.{ReadsSlots, ReadsFiles, HasReadCause, text_of, proof_of};
 ghost use Rattle.sr_cli.specs.Check.{Answers, ByClauses, is_answer, VerifiedHasNoSolution};
 ghost use Rattle.sr_cli.specs.Runs.{JudgesFormula};
 
@@ -47,7 +47,7 @@ fn judge_formula<D: Desk>(
     desk: &mut D,
 ) -> Checked
     requires { (D.outside desk.old).begun ≡ 1 }
-    ensures judges { JudgesFormula limits.now said.now.strict formula.clauses (text_of limits.now ((D.outside desk.old).file said.now.proof.now)) result (D.outside desk.old) (D.outside desk.new) }
+    ensures judges { JudgesFormula limits.now said.now.proof_form said.now.strict formula.clauses (proof_of limits.now said.now.proof_form ((D.outside desk.old).file said.now.proof.now)) result (D.outside desk.old) (D.outside desk.new) }
 {
     let clauses = formula.count();
     let is_refuted = formula.has_empty();
@@ -70,8 +70,9 @@ fn judge_formula<D: Desk>(
         Ok(reader) => reader,
         Err(fault) => return with_counts(outcome_of(Which::Proof, fault), clauses, none),
     };
+    let form = said.proof_form;
     let mut tally = none;
-    let outcome = judge_proof(alloc, limits, checker, &mut tally, &mut reader, desk);
+    let outcome = judge_proof(alloc, limits, form, checker, &mut tally, &mut reader, desk);
     with_counts(outcome, clauses, tally)
 }
 
@@ -84,8 +85,8 @@ pub(crate) fn check_files<D: Desk>(
 ) -> Checked
     requires { (D.outside desk.old).begun ≡ 0 }
     ensures slots { ReadsFiles (D.outside desk.old) (D.outside desk.new) }
-    ensures answers { Answers limits.now said.now.strict (text_of limits.now ((D.outside desk.old).file said.now.formula.now))
-        (text_of limits.now ((D.outside desk.old).file said.now.proof.now)) result.outcome result.counts (D.outside desk.new).begun }
+    ensures answers { Answers limits.now said.now.proof_form said.now.strict (text_of limits.now ((D.outside desk.old).file said.now.formula.now))
+        (proof_of limits.now said.now.proof_form ((D.outside desk.old).file said.now.proof.now)) result.outcome result.counts (D.outside desk.new).begun }
     ensures sound { VerifiedHasNoSolution limits.now (text_of limits.now ((D.outside desk.old).file said.now.formula.now)) result.outcome }
     ensures cause { HasReadCause (D.outside desk.old) (D.outside desk.new) result.outcome }
 {

@@ -4,7 +4,7 @@ ghost use Rattle.sr_base.specs.Literal.{Literal};
 ghost use Rattle.sr_model.specs.Refutation.{has_empty};
 ghost use Rattle.sr_model.specs.Judging.{start};
 ghost use Rattle.sr_desk.specs.Outside.{OnlyReads};
-ghost use Rattle.sr_scan.specs.Left.{texts_left};
+ghost use Rattle.sr_lemma.specs.Left.{tokens_left};
 ghost use Rattle.sr_wit.specs.LsrItems.{item_of};
 ghost use Rattle.sr_cli.specs.Check.{CountsGroups, CountsHints};
 ghost use Rattle.sr_cli.specs.Runs.{Tallies, Takes, Judges, HasFileCause};
@@ -113,6 +113,7 @@ fn take_item(checker: &mut Checker, tally: &mut Tally, item: LsrItem) -> Option<
 pub(crate) fn judge_proof<D: Desk>(
     alloc: Global,
     limits: &Limits,
+    form: Form,
     checker: Checker,
     tally: &mut Tally,
     reader: &mut ByteReader,
@@ -123,13 +124,13 @@ pub(crate) fn judge_proof<D: Desk>(
     requires fresh { checker ≡ record { strict = checker.strict; most = limits.now.cells; state = start f } }
     requires going { has_empty f ≡ false }
     requires none { tally.old ≡ record { steps = 0; hints = 0 } }
-    ensures judges { Judges limits.now checker.strict f (texts_left reader.old (D.outside desk.old)) result tally.new }
+    ensures judges { Judges limits.now form checker.strict f (tokens_left form 2 0 reader.old (D.outside desk.old)) result tally.new }
     ensures only { OnlyReads reader.old.slot (D.outside desk.old) (D.outside desk.new) }
     ensures cause { HasFileCause Which.Proof reader.old.slot (D.outside desk.old) (D.outside desk.new) result }
 {
     let mut checker = checker;
     'items: loop {
-        match next_item(alloc, Form::Text, reader, desk, limits) {
+        match next_item(alloc, form, reader, desk, limits) {
             Err(fault) => return outcome_of(Which::Proof, fault),
             Ok(None) => return Outcome::NoEmptyClause,
             Ok(Some(item)) => match take_item(&mut checker, tally, item) {

@@ -124,6 +124,7 @@ fn form_named(name: Option<&str>) -> Option<Form>
     match name {
         None => Some(Form::Text),
         Some("text") => Some(Form::Text),
+        Some("binary") => Some(Form::Binary),
         Some(_) => None,
     }
 }

@@ -1,3 +1,4 @@
 pub mod Front
 pub mod Gives
 pub mod Reading
+pub mod Written

@@ -4,5 +4,7 @@
 mod clause;
 mod read;
 mod reading;
+mod write;
 
 pub use read::read_formula;
+pub use write::write_formula;

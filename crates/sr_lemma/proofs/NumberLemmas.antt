@@ -49,13 +49,13 @@ by_word_default kind bound word.Cnf place these rest more n = refl
 by_word_default kind bound word.Percent place these rest more n = refl
 by_word_default kind bound word.Other place these rest more n = refl
 
-by_number_more : (kind : LimitKind) (bound : ℕ) (x : ℤ) (place : ℕ) (these : List ℤ) (rest : Texts) (more : NumbersRead) → (x ≡ pos 0 → ⊥) → nat_abs x ≤ bound
+pub by_number_more : (kind : LimitKind) (bound : ℕ) (x : ℤ) (place : ℕ) (these : List ℤ) (rest : Texts) (more : NumbersRead) → (x ≡ pos 0 → ⊥) → nat_abs x ≤ bound
     → by_number kind bound x place these rest more ≡ more
 by_number_more kind bound (pos zero) place these rest more ne le = absurd (ne refl)
 by_number_more kind bound (pos (suc n)) place these rest more ne le = let t : nat_le (suc n) bound ≡ true = grind (arith, nat_tests) in rw t refl
 by_number_more kind bound (negsuc n) place these rest more ne le = let t : nat_le (suc n) bound ≡ true = grind (arith, nat_tests) in rw t refl
 
-by_number_above : (kind : LimitKind) (bound : ℕ) (x : ℤ) (place : ℕ) (these : List ℤ) (rest : Texts) (more : NumbersRead) → (x ≡ pos 0 → ⊥) → bound < nat_abs x
+pub by_number_above : (kind : LimitKind) (bound : ℕ) (x : ℤ) (place : ℕ) (these : List ℤ) (rest : Texts) (more : NumbersRead) → (x ≡ pos 0 → ⊥) → bound < nat_abs x
     → by_number kind bound x place these rest more ≡ above kind
 by_number_above kind bound (pos zero) place these rest more ne le = absurd (ne refl)
 by_number_above kind bound (pos (suc n)) place these rest more ne le = let t : nat_le (suc n) bound ≡ false = grind (arith, nat_tests) in rw t refl
@@ -67,17 +67,17 @@ token_left word.End = 0
 token_left w = 1
 
 -- the numbers behind a token
-at_word : (kind : LimitKind) (bound : ℕ) (these : List ℤ) (t : Token) (rest : Texts)
+pub at_word : (kind : LimitKind) (bound : ℕ) (these : List ℤ) (t : Token) (rest : Texts)
     → numbers_after kind bound these (next t rest) ≡ by_word kind bound t.word t.place these rest (λ x. numbers_after kind bound (these ++ x ∷ []) rest)
 unfolding numbers_after
 at_word kind bound these t rest = refl
 
-at_number : (kind : LimitKind) (bound : ℕ) (these : List ℤ) (t : Token) (x : ℤ) (rest : Texts) → t.word ≡ word.Number x
+pub at_number : (kind : LimitKind) (bound : ℕ) (these : List ℤ) (t : Token) (x : ℤ) (rest : Texts) → t.word ≡ word.Number x
     → numbers_after kind bound these (next t rest) ≡ by_number kind bound x t.place these rest (numbers_after kind bound (these ++ x ∷ []) rest)
 at_number kind bound these t x rest e =
     at_word kind bound these t rest ∙ ap (λ w. by_word kind bound w t.place these rest (λ x. numbers_after kind bound (these ++ x ∷ []) rest)) e
 
-at_default : (kind : LimitKind) (bound : ℕ) (these : List ℤ) (t : Token) (rest : Texts) → ((x : ℤ) → t.word ≡ word.Number x → ⊥)
+pub at_default : (kind : LimitKind) (bound : ℕ) (these : List ℤ) (t : Token) (rest : Texts) → ((x : ℤ) → t.word ≡ word.Number x → ⊥)
     → numbers_after kind bound these (next t rest) ≡ bad (misplaced t.word) t.place
 at_default kind bound these t rest n =
     at_word kind bound these t rest ∙ by_word_default kind bound t.word t.place these rest (λ x. numbers_after kind bound (these ++ x ∷ []) rest) n
@@ -101,7 +101,7 @@ front_stop form lists o old new before after Source given kind bound these all h
 front_stop form lists o old new before after NoMemory given kind bound these all h = absurd given
 
 -- a number other than 0 leaves the lists open
-open_number : (lists o : ℕ) (w : Word) (x : ℤ) → w ≡ word.Number x → (x ≡ pos 0 → ⊥) → open_after lists (suc o) w ≡ suc o
+pub open_number : (lists o : ℕ) (w : Word) (x : ℤ) → w ≡ word.Number x → (x ≡ pos 0 → ⊥) → open_after lists (suc o) w ≡ suc o
 open_number lists o w x e ne = ap (open_after lists (suc o)) e ∙ at x ne
   where
     at : (x : ℤ) → (x ≡ pos 0 → ⊥) → open_after lists (suc o) (word.Number x) ≡ suc o
@@ -109,7 +109,7 @@ open_number lists o w x e ne = ap (open_after lists (suc o)) e ∙ at x ne
     at (pos (suc n)) ne = refl
     at (negsuc n) ne = refl
 
-open_zero : (lists o : ℕ) (w : Word) (x : ℤ) → w ≡ word.Number x → x ≡ pos 0 → open_after lists (suc o) w ≡ o
+pub open_zero : (lists o : ℕ) (w : Word) (x : ℤ) → w ≡ word.Number x → x ≡ pos 0 → open_after lists (suc o) w ≡ o
 open_zero lists o w x e z = ap (open_after lists (suc o)) (e ∙ ap word.Number z) ∙ omega arith
 
 -- what was read, the token at hand and what is left spell what stood at the front

@@ -30,7 +30,7 @@ pub same_bytes : (x : ℤ) → nat_abs x ≤ 2147483647 → number_bytes x ≡ m
 same_bytes (pos n) h = same_groups 9 (2 * n) (omega arith)
 same_bytes (negsuc n) h = same_groups 9 (2 * (n + 1) + 1) (omega arith)
 
-numbers_append : (form : Form) (xs ys : List ℤ) → written_numbers form (xs ++ ys) ≡ written_numbers form xs ++ written_numbers form ys
+pub numbers_append : (form : Form) (xs ys : List ℤ) → written_numbers form (xs ++ ys) ≡ written_numbers form xs ++ written_numbers form ys
 numbers_append form [] ys = refl
 numbers_append form (x ∷ xs) ys = ap (λ l. written_number form x ++ l) (numbers_append form xs ys) ∙ sym (append_assoc (written_number form x) (written_numbers form xs) (written_numbers form ys))
 

@@ -1,5 +1,5 @@
 -- What the first tokens of an item tell.
-use Rattle.std.proofs.Common.{◌≡◌, ◌∙◌, ◌==◌, ℕ, ℤ, pos, negsuc, ◌<◌, ◌≤◌, ◌≤ℤ◌, ◌<ℤ◌, refl, sym, ap, [], true, false, Option, Some, Err, arith}
+use Rattle.std.proofs.Common.{◌≡◌, ◌∙◌, ◌==◌, ℕ, ℤ, pos, negsuc, zero, suc, ◌<◌, ◌≤◌, refl, sym, ap, [], true, false, Ok, Err, arith}
 use Rattle.std.specs.Prelude.{nat_abs, nat_le}
 use Rattle.std.proofs.lemmas.Int.{ints}
 use Rattle.std.proofs.lemmas.Bool.Decides.{nat_tests}
@@ -10,78 +10,182 @@ use Rattle.sr_model.specs.declared.tokens.Word.{Word}
 use Rattle.sr_model.specs.declared.tokens.Word.TheVariants as word
 use Rattle.sr_model.specs.declared.tokens.Token.{Token}
 use Rattle.sr_model.specs.Texts.{Texts, next}
-use Rattle.sr_model.specs.Lsr.{none, misspells, passes, numbers_after, with_literals, by_kind, kind_at, by_id, item_at}
-use Rattle.sr_scan.specs.Left.{StandsFirst}
+use Rattle.sr_model.specs.Lsr.{none, misspells, passes, numbers_after, with_literals, dropped_after, by_kind, kind_at, by_id, item_at}
+use Rattle.sr_model.specs.LsrBinary.{by_step_number, binary_step_at, binary_item_at}
 use Rattle.sr_wit.specs.declared.fault.InFault.{InFault}
 use Rattle.sr_wit.specs.declared.fault.InFault.TheVariants.{Text, Limit, Source, NoMemory}
-use Rattle.sr_lsr.specs.Reads.{StopsItem, GivesFront}
+use Rattle.sr_lemma.specs.Laws.{front_word}
+use Rattle.sr_lemma.specs.Reads.{misplaced}
+use Rattle.sr_lsr.specs.Reads.{StopsItem, GivesSize}
+use Rattle.sr_lsr.proofs.BeginLemmas.{stops_same, HandsOn}
 
--- a token that isn't the end stands in front of those that are left
-pub stands_next : (old new : Option Texts) (t : Token) → StandsFirst old new t.place t.word → (t.word ≡ word.End → ⊥) → (all : Texts) → old ≡ Some all
-    → (rest : Texts) × (new ≡ Some rest) × (all ≡ next t rest)
-stands_next old new t first some all h = by t.word refl first
+-- what stops the tokens
+pub numbered_hands_on : (lim : LimitValues) (id at : ℕ) → HandsOn (kind_at lim id at)
+numbered_hands_on lim id at = record { misspelled = λ kind place. refl; past = refl }
+
+pub literals_hand_on : (lim : LimitValues) (id : ℕ) → HandsOn (λ all. with_literals lim id (numbers_after limit.Vars lim.vars [] all))
+unfolding numbers_after
+literals_hand_on lim id = record { misspelled = λ kind place. refl; past = refl }
+
+pub binary_step_hands_on : (lim : LimitValues) → HandsOn (binary_step_at lim)
+binary_step_hands_on lim = record { misspelled = λ kind place. refl; past = refl }
+
+-- a token in front of a list of literals
+pub literals_next : (lim : LimitValues) (id : ℕ) (t : Token) (rest : Texts)
+    → with_literals lim id (numbers_after limit.Vars lim.vars [] (front_word t.place t.word rest)) ≡ with_literals lim id (numbers_after limit.Vars lim.vars [] (next t rest))
+unfolding numbers_after
+literals_next lim id t rest = by t.word
   where
-    by : (w : Word) → t.word ≡ w → StandsFirst old new t.place w → (rest : Texts) × (new ≡ Some rest) × (all ≡ next t rest)
-    by word.End e f = absurd (some e)
-    by (word.Number x) e f = let r = f all h in (r.0, r.2, r.1 ∙ ap (λ w. next (record { place = t.place; word = w }) r.0) (sym e))
-    by word.Add e f = let r = f all h in (r.0, r.2, r.1 ∙ ap (λ w. next (record { place = t.place; word = w }) r.0) (sym e))
-    by word.Del e f = let r = f all h in (r.0, r.2, r.1 ∙ ap (λ w. next (record { place = t.place; word = w }) r.0) (sym e))
-    by word.Header e f = let r = f all h in (r.0, r.2, r.1 ∙ ap (λ w. next (record { place = t.place; word = w }) r.0) (sym e))
-    by word.Cnf e f = let r = f all h in (r.0, r.2, r.1 ∙ ap (λ w. next (record { place = t.place; word = w }) r.0) (sym e))
-    by word.Percent e f = let r = f all h in (r.0, r.2, r.1 ∙ ap (λ w. next (record { place = t.place; word = w }) r.0) (sym e))
-    by word.Other e f = let r = f all h in (r.0, r.2, r.1 ∙ ap (λ w. next (record { place = t.place; word = w }) r.0) (sym e))
+    by : (w : Word) → with_literals lim id (numbers_after limit.Vars lim.vars [] (front_word t.place w rest)) ≡ with_literals lim id (numbers_after limit.Vars lim.vars [] (next (record { place = t.place; word = w }) rest))
+    by word.End = refl
+    by (word.Number x) = refl
+    by word.Add = refl
+    by word.Del = refl
+    by word.Header = refl
+    by word.Cnf = refl
+    by word.Percent = refl
+    by word.Other = refl
 
--- behind the number of an item, another number begins its literals
-pub kind_number : (lim : LimitValues) (id at : ℕ) (old new : Option Texts) (t : Token) (x : ℤ) → StandsFirst old new t.place t.word → t.word ≡ word.Number x → (id ≡ 0 → ⊥) → (all : Texts) → old ≡ Some all
-    → (rest : Texts) × (new ≡ Some rest) × (kind_at lim id at all ≡ with_literals lim id (numbers_after limit.Vars lim.vars [] (next t rest)))
-kind_number lim id at old new t x first e some all h =
-    let r = stands_next old new t first (λ end. cc) all h in
+-- a size that isn't 0
+pub some_size : (x : ℤ) (n ids place : ℕ) → GivesSize x ids place (Ok n) → (n ≡ 0 → ⊥) → x ≡ pos 0 → ⊥
+some_size x n ids place g some z = some (ap nat_abs (sym g.0 ∙ z))
+
+-- behind the number of an item of a text: `d`, another number, and what else stands there
+pub kind_deletion : (lim : LimitValues) (ids id at : ℕ) (t : Token) (rest : Texts) → ids ≡ lim.ids → t.word ≡ word.Del → kind_at lim id at (front_word t.place t.word rest) ≡ dropped_after ids id [] rest
+kind_deletion lim ids id at t rest i e = ap (λ w. kind_at lim id at (front_word t.place w rest)) e ∙ ap (λ (n : ℕ). dropped_after n id [] rest) (sym i)
+
+pub kind_step : (lim : LimitValues) (id at : ℕ) (t : Token) (x : ℤ) (rest : Texts) → t.word ≡ word.Number x → (id ≡ 0 → ⊥)
+    → kind_at lim id at (front_word t.place t.word rest) ≡ with_literals lim id (numbers_after limit.Vars lim.vars [] (next t rest))
+kind_step lim id at t x rest e some =
     let other : (id == 0) ≡ false = grind (arith, nat_tests) in
-    (r.0, r.1, ap (kind_at lim id at) r.2 ∙ ap (λ w. by_kind lim id at w t.place r.0 (next t r.0)) e ∙ rw other refl)
+    ap (λ w. kind_at lim id at (front_word t.place w rest)) e ∙ rw other refl ∙ ap (λ w. with_literals lim id (numbers_after limit.Vars lim.vars [] (next (record { place = t.place; word = w }) rest))) (sym e)
 
--- the first token of an item
-pub item_stop : (old new : Option Texts) (e : InFault) → GivesFront old new (Err e) → (lim : LimitValues) (all : Texts) → old ≡ Some all → StopsItem e (item_at lim all)
+pub kind_other : (lim : LimitValues) (id at : ℕ) (t : Token) (rest : Texts) → (t.word ≡ word.Del → ⊥) → ((x : ℤ) → t.word ≡ word.Number x → ⊥)
+    → kind_at lim id at (front_word t.place t.word rest) ≡ misspells (misplaced t.word) t.place
+kind_other lim id at t rest d n = by t.word d n
+  where
+    by : (w : Word) → (w ≡ word.Del → ⊥) → ((x : ℤ) → w ≡ word.Number x → ⊥) → kind_at lim id at (front_word t.place w rest) ≡ misspells (misplaced w) t.place
+    by (word.Number x) d n = absurd (n x refl)
+    by word.Del d n = absurd (d refl)
+    by word.End d n = refl
+    by word.Add d n = refl
+    by word.Header d n = refl
+    by word.Cnf d n = refl
+    by word.Percent d n = refl
+    by word.Other d n = refl
+
+-- the number of an item of a text
+pub text_end : (lim : LimitValues) (t : Token) (rest : Texts) → t.word ≡ word.End → item_at lim (front_word t.place t.word rest) ≡ none
 unfolding item_at
-item_stop old new (Text fault place) given lim all h = ap (item_at lim) (given all h)
-item_stop old new (Limit limit.Bytes) given lim all h = ap (item_at lim) (given all h)
-item_stop old new (Limit limit.Vars) given lim all h = absurd given
-item_stop old new (Limit limit.Ids) given lim all h = absurd given
-item_stop old new (Limit limit.Cells) given lim all h = absurd given
-item_stop old new Source given lim all h = tt
-item_stop old new NoMemory given lim all h = absurd given
+text_end lim t rest e = ap (λ w. item_at lim (front_word t.place w rest)) e
 
-pub item_end : (old new : Option Texts) (place : ℕ) → StandsFirst old new place word.End → (lim : LimitValues) (all : Texts) → old ≡ Some all → item_at lim all ≡ none
+text_number : (lim : LimitValues) (t : Token) (x : ℤ) (rest : Texts) → t.word ≡ word.Number x → item_at lim (front_word t.place t.word rest) ≡ by_id lim (word.Number x) t.place rest
 unfolding item_at
-item_end old new place first lim all h = ap (item_at lim) (first all h).0
+text_number lim t x rest e = ap (λ w. item_at lim (front_word t.place w rest)) e
 
-pub item_front : (old new : Option Texts) (t : Token) → StandsFirst old new t.place t.word → (t.word ≡ word.End → ⊥) → (lim : LimitValues) (all : Texts) → old ≡ Some all
-    → (rest : Texts) × (new ≡ Some rest) × (item_at lim all ≡ by_id lim t.word t.place rest)
+pub text_numbered : (lim : LimitValues) (ids : ℕ) (t : Token) (x : ℤ) (n : ℕ) (rest : Texts) → ids ≡ lim.ids → t.word ≡ word.Number x → GivesSize x ids t.place (Ok n)
+    → item_at lim (front_word t.place t.word rest) ≡ kind_at lim n t.place rest
+text_numbered lim ids t x n rest i e g =
+    let within : n ≤ lim.ids = omega (arith, g.1, i) in
+    let test : nat_le n lim.ids ≡ true = grind (arith, nat_tests) in
+    text_number lim t x rest e ∙ ap (λ y. by_id lim (word.Number y) t.place rest) g.0 ∙ rw test refl
+
+pub text_fault : (lim : LimitValues) (ids : ℕ) (t : Token) (x : ℤ) (rest : Texts) (e : InFault) → ids ≡ lim.ids → t.word ≡ word.Number x → GivesSize x ids t.place (Err e)
+    → StopsItem e (item_at lim (front_word t.place t.word rest))
+text_fault lim ids t x rest e i is g = stops_same e (item_at lim (front_word t.place t.word rest)) (by_id lim (word.Number x) t.place rest) (text_number lim t x rest is) (at x e g)
+  where
+    at : (x : ℤ) (e : InFault) → GivesSize x ids t.place (Err e) → StopsItem e (by_id lim (word.Number x) t.place rest)
+    at (pos n) (Text kind place) g = absurd (omega (arith, ints, g.0))
+    at (negsuc n) (Text kind place) g = ap (λ k. misspells k t.place) (sym g.1) ∙ ap (misspells kind) (sym g.2)
+    at (pos n) (Limit kind) g =
+        let past : lim.ids < n = omega (arith, g.1, i) in
+        let test : nat_le n lim.ids ≡ false = grind (arith, nat_tests) in rw test (ap passes (sym g.2))
+    at (negsuc n) (Limit kind) g = let bad = g.0 in cc
+    at x Source g = absurd g
+    at x NoMemory g = absurd g
+
+pub text_other : (lim : LimitValues) (t : Token) (rest : Texts) → (t.word ≡ word.End → ⊥) → ((x : ℤ) → t.word ≡ word.Number x → ⊥) → item_at lim (front_word t.place t.word rest) ≡ misspells BadWord t.place
 unfolding item_at
-item_front old new t first some lim all h = let r = stands_next old new t first some all h in (r.0, r.1, ap (item_at lim) r.2)
+text_other lim t rest e n = by t.word e n
+  where
+    by : (w : Word) → (w ≡ word.End → ⊥) → ((x : ℤ) → w ≡ word.Number x → ⊥) → item_at lim (front_word t.place w rest) ≡ misspells BadWord t.place
+    by word.End e n = absurd (e refl)
+    by (word.Number x) e n = absurd (n x refl)
+    by word.Del e n = refl
+    by word.Add e n = refl
+    by word.Header e n = refl
+    by word.Cnf e n = refl
+    by word.Percent e n = refl
+    by word.Other e n = refl
 
-pub item_number : (old new : Option Texts) (t : Token) (x : ℤ) → StandsFirst old new t.place t.word → t.word ≡ word.Number x → (lim : LimitValues) (all : Texts) → old ≡ Some all
-    → (rest : Texts) × (new ≡ Some rest) × (item_at lim all ≡ by_id lim (word.Number x) t.place rest)
-item_number old new t x first e lim all h =
-    let r = item_front old new t first (λ end. cc) lim all h in (r.0, r.1, r.2 ∙ ap (λ w. by_id lim w t.place r.0) e)
+-- the number of a step of a binary file
+step_number : (lim : LimitValues) (t : Token) (x : ℤ) (rest : Texts) → t.word ≡ word.Number x → binary_step_at lim (front_word t.place t.word rest) ≡ by_step_number lim (word.Number x) t.place rest
+step_number lim t x rest e = ap (λ w. binary_step_at lim (front_word t.place w rest)) e
 
-pub id_negative : (lim : LimitValues) (x : ℤ) (place : ℕ) (rest : Texts) → x <ℤ pos 0 → by_id lim (word.Number x) place rest ≡ misspells BadNumber place
-id_negative lim (pos n) place rest down = absurd (omega (arith, ints, down))
-id_negative lim (negsuc n) place rest down = refl
+pub step_zero : (lim : LimitValues) (ids : ℕ) (t : Token) (x : ℤ) (n : ℕ) (rest : Texts) → t.word ≡ word.Number x → GivesSize x ids t.place (Ok n) → n ≡ 0
+    → binary_step_at lim (front_word t.place t.word rest) ≡ misspells BadNumber t.place
+step_zero lim ids t x n rest e g z = step_number lim t x rest e ∙ ap (λ y. by_step_number lim (word.Number y) t.place rest) (g.0 ∙ ap pos z)
 
-pub id_above : (lim : LimitValues) (x : ℤ) (place : ℕ) (rest : Texts) → pos 0 ≤ℤ x → lim.ids < nat_abs x → by_id lim (word.Number x) place rest ≡ passes limit.Ids
-id_above lim (pos n) place rest up past = let t : nat_le n lim.ids ≡ false = grind (arith, nat_tests) in rw t refl
-id_above lim (negsuc n) place rest up past = absurd (omega (arith, ints, up))
+pub step_numbered : (lim : LimitValues) (ids : ℕ) (t : Token) (x : ℤ) (n : ℕ) (rest : Texts) → ids ≡ lim.ids → t.word ≡ word.Number x → GivesSize x ids t.place (Ok n) → (n ≡ 0 → ⊥)
+    → binary_step_at lim (front_word t.place t.word rest) ≡ with_literals lim n (numbers_after limit.Vars lim.vars [] rest)
+step_numbered lim ids t x zero rest i e g some = absurd (some refl)
+step_numbered lim ids t x (suc n) rest i e g some =
+    let within : suc n ≤ lim.ids = omega (arith, g.1, i) in
+    let test : nat_le (suc n) lim.ids ≡ true = grind (arith, nat_tests) in
+    step_number lim t x rest e ∙ ap (λ y. by_step_number lim (word.Number y) t.place rest) g.0 ∙ rw test refl
 
-pub id_within : (lim : LimitValues) (x : ℤ) (place : ℕ) (rest : Texts) → pos 0 ≤ℤ x → nat_abs x ≤ lim.ids → by_id lim (word.Number x) place rest ≡ kind_at lim (nat_abs x) place rest
-id_within lim (pos n) place rest up within = let t : nat_le n lim.ids ≡ true = grind (arith, nat_tests) in rw t refl
-id_within lim (negsuc n) place rest up within = absurd (omega (arith, ints, up))
+pub step_fault : (lim : LimitValues) (ids : ℕ) (t : Token) (x : ℤ) (rest : Texts) (e : InFault) → ids ≡ lim.ids → t.word ≡ word.Number x → GivesSize x ids t.place (Err e)
+    → StopsItem e (binary_step_at lim (front_word t.place t.word rest))
+step_fault lim ids t x rest e i is g = stops_same e (binary_step_at lim (front_word t.place t.word rest)) (by_step_number lim (word.Number x) t.place rest) (step_number lim t x rest is) (at x e g)
+  where
+    at : (x : ℤ) (e : InFault) → GivesSize x ids t.place (Err e) → StopsItem e (by_step_number lim (word.Number x) t.place rest)
+    at (pos n) (Text kind place) g = absurd (omega (arith, ints, g.0))
+    at (negsuc n) (Text kind place) g = ap (λ k. misspells k t.place) (sym g.1) ∙ ap (misspells kind) (sym g.2)
+    at (pos zero) (Limit kind) g = absurd (omega (arith, g.1))
+    at (pos (suc n)) (Limit kind) g =
+        let past : lim.ids < suc n = omega (arith, g.1, i) in
+        let test : nat_le (suc n) lim.ids ≡ false = grind (arith, nat_tests) in rw test (ap passes (sym g.2))
+    at (negsuc n) (Limit kind) g = let bad = g.0 in cc
+    at x Source g = absurd g
+    at x NoMemory g = absurd g
 
-pub id_default : (lim : LimitValues) (w : Word) (place : ℕ) (rest : Texts) → ((x : ℤ) → w ≡ word.Number x → ⊥) → by_id lim w place rest ≡ misspells BadWord place
-id_default lim (word.Number x) place rest n = absurd (n x refl)
-id_default lim word.End place rest n = refl
-id_default lim word.Add place rest n = refl
-id_default lim word.Del place rest n = refl
-id_default lim word.Header place rest n = refl
-id_default lim word.Cnf place rest n = refl
-id_default lim word.Percent place rest n = refl
-id_default lim word.Other place rest n = refl
+pub step_other : (lim : LimitValues) (t : Token) (rest : Texts) → ((x : ℤ) → t.word ≡ word.Number x → ⊥) → binary_step_at lim (front_word t.place t.word rest) ≡ misspells (misplaced t.word) t.place
+step_other lim t rest n = by t.word n
+  where
+    by : (w : Word) → ((x : ℤ) → w ≡ word.Number x → ⊥) → binary_step_at lim (front_word t.place w rest) ≡ misspells (misplaced w) t.place
+    by (word.Number x) n = absurd (n x refl)
+    by word.End n = refl
+    by word.Del n = refl
+    by word.Add n = refl
+    by word.Header n = refl
+    by word.Cnf n = refl
+    by word.Percent n = refl
+    by word.Other n = refl
+
+-- the byte that begins an item of a binary file
+pub binary_end : (lim : LimitValues) (t : Token) (rest : Texts) → t.word ≡ word.End → binary_item_at lim (front_word t.place t.word rest) ≡ none
+unfolding binary_item_at
+binary_end lim t rest e = ap (λ w. binary_item_at lim (front_word t.place w rest)) e
+
+pub binary_step : (lim : LimitValues) (t : Token) (rest : Texts) → t.word ≡ word.Add → binary_item_at lim (front_word t.place t.word rest) ≡ binary_step_at lim rest
+unfolding binary_item_at
+binary_step lim t rest e = ap (λ w. binary_item_at lim (front_word t.place w rest)) e
+
+pub binary_deletion : (lim : LimitValues) (ids : ℕ) (t : Token) (rest : Texts) → ids ≡ lim.ids → t.word ≡ word.Del → binary_item_at lim (front_word t.place t.word rest) ≡ dropped_after ids 0 [] rest
+unfolding binary_item_at
+binary_deletion lim ids t rest i e = ap (λ w. binary_item_at lim (front_word t.place w rest)) e ∙ ap (λ (n : ℕ). dropped_after n 0 [] rest) (sym i)
+
+pub binary_other : (lim : LimitValues) (t : Token) (rest : Texts) → (t.word ≡ word.End → ⊥) → (t.word ≡ word.Add → ⊥) → (t.word ≡ word.Del → ⊥)
+    → binary_item_at lim (front_word t.place t.word rest) ≡ misspells BadWord t.place
+unfolding binary_item_at
+binary_other lim t rest e a d = by t.word e a d
+  where
+    by : (w : Word) → (w ≡ word.End → ⊥) → (w ≡ word.Add → ⊥) → (w ≡ word.Del → ⊥) → binary_item_at lim (front_word t.place w rest) ≡ misspells BadWord t.place
+    by word.End e a d = absurd (e refl)
+    by word.Add e a d = absurd (a refl)
+    by word.Del e a d = absurd (d refl)
+    by (word.Number x) e a d = refl
+    by word.Header e a d = refl
+    by word.Cnf e a d = refl
+    by word.Percent e a d = refl
+    by word.Other e a d = refl

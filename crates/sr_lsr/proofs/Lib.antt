@@ -1,5 +1,7 @@
-pub mod NumberLemmas
-pub mod HintLemmas
 pub mod DropLemmas
-pub mod SplitLemmas
+pub mod HintLemmas
+pub mod StepLemmas
+pub mod BeginLemmas
 pub mod ItemLemmas
+pub mod NextLemmas
+pub mod WriteLemmas

@@ -1,3 +1,4 @@
 pub mod Reads
 pub mod Told
 pub mod Steps
+pub mod Written

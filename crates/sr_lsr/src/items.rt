@@ -1,46 +1,49 @@
 // Items of a proof by hints.
-ghost use Rattle.std.specs.Prelude.{◌≡◌, true, IsTrue, IfOk, IfSome, OnSome};
+ghost use Rattle.std.specs.Prelude.{◌≡◌, ◌≢◌, true, IsTrue, IfOk, IfSome, OnSome};
 ghost use Rattle.sr_desk.specs.Outside.{OnlyReads};
 ghost use Rattle.sr_desk.specs.Next.{IsSameReader};
-ghost use Rattle.sr_scan.specs.Left.{texts_left};
-ghost use Rattle.sr_model.specs.Meeting.{HasPivot};
+ghost use Rattle.sr_model.specs.Binary.{open_after};
 ghost use Rattle.sr_model.specs.Judging.{ItemHasPivot};
 ghost use Rattle.sr_wit.specs.LsrItems.{item_of};
-ghost use Rattle.sr_lsr.specs.Reads.{GivesStepBehind, GivesItemOf, GivesItem, HasInCause, TakesSome};
+ghost use Rattle.sr_lemma.specs.Left.{tokens_left};
+ghost use Rattle.sr_lemma.specs.Reads.{HasInCause};
+ghost use Rattle.sr_lsr.specs.Reads.{GivesStepBehind, GivesNumbered, GivesLiteralsBehind, GivesBinaryStep, GivesItemBehind, GivesItem, TakesSome};
 
 use crate::drops::read_drop;
-use crate::front::{misplaced, next_token};
 use crate::hints::read_hints;
-use crate::literals::read_literals;
-use crate::witnesses::make_step;
-use sr_base::{Form, LimitKind, Limits, TextKind};
+use crate::sizes::size_within;
+use crate::steps::make_step;
+use sr_base::{Form, Limits, TextKind};
 use sr_desk::{ByteReader, Desk};
+use sr_lemma::{misplaced, next_token, read_literals};
 use sr_model::{Token, Word};
-use sr_wit::{InFault, LsrItem, Step};
+use sr_wit::{InFault, LsrItem};
 use std::alloc::Global;
 
 /// The step whose number and first literal were read.
 fn read_step<D: Desk>(
     alloc: Global,
+    form: Form,
     id: u32,
     first: Token,
     reader: &mut ByteReader,
     desk: &mut D,
     limits: &Limits,
-) -> Result<Step, InFault>
+) -> Result<LsrItem, InFault>
     requires { IsTrue ((D.outside desk.old).slot reader.old.slot).reads }
-    ensures step { GivesStepBehind limits.now id first (texts_left reader.old (D.outside desk.old)) (texts_left reader.new (D.outside desk.new)) result }
-    ensures pivot { IfOk result HasPivot }
+    ensures item { GivesStepBehind limits.now id first (tokens_left form 2 (open_after 2 2 first.word) reader.old (D.outside desk.old)) (tokens_left form 2 0 reader.new (D.outside desk.new)) result }
+    ensures pivot { IfOk result (λ x. ItemHasPivot (item_of x)) }
     ensures same { IsSameReader reader.old reader.new }
     ensures only { OnlyReads reader.old.slot (D.outside desk.old) (D.outside desk.new) }
     ensures cause { HasInCause reader.old.slot (D.outside desk.old) (D.outside desk.new) result }
 {
-    let literals = read_literals(alloc, limits.vars(), first, reader, desk)?;
-    let hints = read_hints(alloc, limits.ids(), reader, desk)?;
-    make_step(alloc, id, literals.lits.as_slice(), literals.end, hints)
+    let literals = read_literals(alloc, form, limits.vars(), first, reader, desk)?;
+    let hints = read_hints(alloc, form, limits.ids(), reader, desk)?;
+    let step = make_step(alloc, id, literals.lits.as_slice(), literals.end, hints)?;
+    Ok(LsrItem::Step(step))
 }
 
-/// The item whose number was read, from this place.
+/// The item of a text whose number was read, from this place.
 fn read_numbered<D: Desk>(
     alloc: Global,
     id: u32,
@@ -50,18 +53,15 @@ fn read_numbered<D: Desk>(
     limits: &Limits,
 ) -> Result<LsrItem, InFault>
     requires { IsTrue ((D.outside desk.old).slot reader.old.slot).reads }
-    ensures item { GivesItemOf limits.now id place (texts_left reader.old (D.outside desk.old)) (texts_left reader.new (D.outside desk.new)) result }
+    ensures item { GivesNumbered limits.now id place (tokens_left Form.Text 2 2 reader.old (D.outside desk.old)) (tokens_left Form.Text 2 0 reader.new (D.outside desk.new)) result }
     ensures pivot { IfOk result (λ x. ItemHasPivot (item_of x)) }
     ensures same { IsSameReader reader.old reader.new }
     ensures only { OnlyReads reader.old.slot (D.outside desk.old) (D.outside desk.new) }
     ensures cause { HasInCause reader.old.slot (D.outside desk.old) (D.outside desk.new) result }
 {
-    let token = next_token(reader, desk)?;
+    let token = next_token(Form::Text, false, reader, desk)?;
     match token.word {
-        Word::Del => {
-            let ids = read_drop(alloc, limits.ids(), id, reader, desk)?;
-            Ok(LsrItem::Drop { id, ids })
-        }
+        Word::Del => read_drop(alloc, Form::Text, limits.ids(), id, reader, desk),
         Word::Number(_) => {
             if id == 0 {
                 return Err(InFault::Text {
@@ -69,8 +69,7 @@ fn read_numbered<D: Desk>(
                     place,
                 });
             }
-            let step = read_step(alloc, id, token, reader, desk, limits)?;
-            Ok(LsrItem::Step(step))
+            read_step(alloc, Form::Text, id, token, reader, desk, limits)
         }
         _ => Err(InFault::Text {
             kind: misplaced(&token.word),
@@ -79,7 +78,123 @@ fn read_numbered<D: Desk>(
     }
 }
 
-/// The next item of a proof by hints in text; none where only white space and comments are left.
+/// The item of a text that a token begins: a number.
+fn text_item<D: Desk>(
+    alloc: Global,
+    token: Token,
+    reader: &mut ByteReader,
+    desk: &mut D,
+    limits: &Limits,
+) -> Result<Option<LsrItem>, InFault>
+    requires { IsTrue ((D.outside desk.old).slot reader.old.slot).reads }
+    ensures item { GivesItemBehind Form.Text limits.now token (tokens_left Form.Text 2 (open_after 2 0 token.word) reader.old (D.outside desk.old)) (tokens_left Form.Text 2 0 reader.new (D.outside desk.new)) result }
+    ensures some { IfOk result (λ o. OnSome o (token.word ≢ Word.End)) }
+    ensures pivot { IfOk result (λ o. IfSome o (λ x. ItemHasPivot (item_of x))) }
+    ensures same { IsSameReader reader.old reader.new }
+    ensures only { OnlyReads reader.old.slot (D.outside desk.old) (D.outside desk.new) }
+    ensures cause { HasInCause reader.old.slot (D.outside desk.old) (D.outside desk.new) result }
+{
+    match token.word {
+        Word::End => Ok(None),
+        Word::Number(x) => {
+            let id = size_within(x, limits.ids(), token.place)?;
+            match read_numbered(alloc, id, token.place, reader, desk, limits) {
+                Ok(item) => Ok(Some(item)),
+                Err(fault) => Err(fault),
+            }
+        }
+        _ => Err(InFault::Text {
+            kind: TextKind::BadWord,
+            place: token.place,
+        }),
+    }
+}
+
+/// The step of a binary file whose number was read.
+fn read_binary_literals<D: Desk>(
+    alloc: Global,
+    id: u32,
+    reader: &mut ByteReader,
+    desk: &mut D,
+    limits: &Limits,
+) -> Result<LsrItem, InFault>
+    requires { IsTrue ((D.outside desk.old).slot reader.old.slot).reads }
+    ensures item { GivesLiteralsBehind limits.now id (tokens_left Form.Binary 2 2 reader.old (D.outside desk.old)) (tokens_left Form.Binary 2 0 reader.new (D.outside desk.new)) result }
+    ensures pivot { IfOk result (λ x. ItemHasPivot (item_of x)) }
+    ensures same { IsSameReader reader.old reader.new }
+    ensures only { OnlyReads reader.old.slot (D.outside desk.old) (D.outside desk.new) }
+    ensures cause { HasInCause reader.old.slot (D.outside desk.old) (D.outside desk.new) result }
+{
+    let first = next_token(Form::Binary, false, reader, desk)?;
+    read_step(alloc, Form::Binary, id, first, reader, desk, limits)
+}
+
+/// The step behind the byte that tells it: its number comes first.
+fn read_binary_step<D: Desk>(
+    alloc: Global,
+    reader: &mut ByteReader,
+    desk: &mut D,
+    limits: &Limits,
+) -> Result<LsrItem, InFault>
+    requires { IsTrue ((D.outside desk.old).slot reader.old.slot).reads }
+    ensures item { GivesBinaryStep limits.now (tokens_left Form.Binary 2 2 reader.old (D.outside desk.old)) (tokens_left Form.Binary 2 0 reader.new (D.outside desk.new)) result }
+    ensures pivot { IfOk result (λ x. ItemHasPivot (item_of x)) }
+    ensures same { IsSameReader reader.old reader.new }
+    ensures only { OnlyReads reader.old.slot (D.outside desk.old) (D.outside desk.new) }
+    ensures cause { HasInCause reader.old.slot (D.outside desk.old) (D.outside desk.new) result }
+{
+    let token = next_token(Form::Binary, false, reader, desk)?;
+    let Word::Number(x) = token.word else {
+        return Err(InFault::Text {
+            kind: misplaced(&token.word),
+            place: token.place,
+        });
+    };
+    let id = size_within(x, limits.ids(), token.place)?;
+    if id == 0 {
+        return Err(InFault::Text {
+            kind: TextKind::BadNumber,
+            place: token.place,
+        });
+    }
+    read_binary_literals(alloc, id, reader, desk, limits)
+}
+
+/// The item of a binary file that a token begins. A deletion has no number, and is given the number 0.
+fn binary_item<D: Desk>(
+    alloc: Global,
+    token: Token,
+    reader: &mut ByteReader,
+    desk: &mut D,
+    limits: &Limits,
+) -> Result<Option<LsrItem>, InFault>
+    requires { IsTrue ((D.outside desk.old).slot reader.old.slot).reads }
+    ensures item { GivesItemBehind Form.Binary limits.now token (tokens_left Form.Binary 2 (open_after 2 0 token.word) reader.old (D.outside desk.old)) (tokens_left Form.Binary 2 0 reader.new (D.outside desk.new)) result }
+    ensures some { IfOk result (λ o. OnSome o (token.word ≢ Word.End)) }
+    ensures pivot { IfOk result (λ o. IfSome o (λ x. ItemHasPivot (item_of x))) }
+    ensures same { IsSameReader reader.old reader.new }
+    ensures only { OnlyReads reader.old.slot (D.outside desk.old) (D.outside desk.new) }
+    ensures cause { HasInCause reader.old.slot (D.outside desk.old) (D.outside desk.new) result }
+{
+    match token.word {
+        Word::End => Ok(None),
+        Word::Add => match read_binary_step(alloc, reader, desk, limits) {
+            Ok(item) => Ok(Some(item)),
+            Err(fault) => Err(fault),
+        },
+        Word::Del => match read_drop(alloc, Form::Binary, limits.ids(), 0, reader, desk) {
+            Ok(item) => Ok(Some(item)),
+            Err(fault) => Err(fault),
+        },
+        _ => Err(InFault::Text {
+            kind: TextKind::BadWord,
+            place: token.place,
+        }),
+    }
+}
+
+/// The next item of a proof by hints; none where only white space and comments are left (text) or nothing
+/// (binary). A step's witness has the first literal of its clause as its pivot.
 ///
 /// # Errors
 ///
@@ -94,35 +209,17 @@ pub fn next_item<D: Desk>(
     desk: &mut D,
     limits: &Limits,
 ) -> Result<Option<LsrItem>, InFault>
-    requires reads { IsTrue ((D.outside desk.old).slot reader.old.slot).reads }
-    requires text { form ≡ Form.Text }
-    ensures item { GivesItem limits.now (texts_left reader.old (D.outside desk.old)) (texts_left reader.new (D.outside desk.new)) result }
-    ensures takes { IfOk result (λ x. OnSome x (TakesSome reader.old reader.new)) }
+    requires { IsTrue ((D.outside desk.old).slot reader.old.slot).reads }
+    ensures item { GivesItem form limits.now (tokens_left form 2 0 reader.old (D.outside desk.old)) (tokens_left form 2 0 reader.new (D.outside desk.new)) result }
+    ensures takes { IfOk result (λ o. OnSome o (TakesSome reader.old reader.new)) }
     ensures pivot { IfOk result (λ o. IfSome o (λ x. ItemHasPivot (item_of x))) }
     ensures same { IsSameReader reader.old reader.new }
     ensures only { OnlyReads reader.old.slot (D.outside desk.old) (D.outside desk.new) }
     ensures cause { HasInCause reader.old.slot (D.outside desk.old) (D.outside desk.new) result }
 {
-    let token = next_token(reader, desk)?;
-    match token.word {
-        Word::End => Ok(None),
-        Word::Number(x) => {
-            if x < 0 {
-                return Err(InFault::Text {
-                    kind: TextKind::BadNumber,
-                    place: token.place,
-                });
-            }
-            let id = x.unsigned_abs();
-            if id > u64::from(limits.ids()) {
-                return Err(InFault::Limit(LimitKind::Ids));
-            }
-            let item = read_numbered(alloc, id as u32, token.place, reader, desk, limits)?;
-            Ok(Some(item))
-        }
-        _ => Err(InFault::Text {
-            kind: TextKind::BadWord,
-            place: token.place,
-        }),
+    let token = next_token(form, true, reader, desk)?;
+    match form {
+        Form::Text => text_item(alloc, token, reader, desk, limits),
+        Form::Binary => binary_item(alloc, token, reader, desk, limits),
     }
 }

@@ -1,12 +1,13 @@
 //! Proofs by hints: LRAT's steps and deletions, with witnesses, and groups of hints for the clauses
-//! that they touch (Codel, Avigad and Heule 2024).
+//! that they touch (Codel, Avigad and Heule 2024), read and written in text and in binary.
 #![tactic(auto)]
 
 mod drops;
-mod front;
 mod hints;
 mod items;
-mod literals;
-mod witnesses;
+mod sizes;
+mod steps;
+mod write;
 
 pub use items::next_item;
+pub use write::item_bytes;

@@ -2,6 +2,8 @@
 #![tactic(auto)]
 
 #[cfg(test)]
+mod binary;
+#[cfg(test)]
 mod case;
 #[cfg(test)]
 mod formulas;
@@ -9,6 +11,8 @@ mod formulas;
 mod hints;
 #[cfg(test)]
 mod limits;
+#[cfg(test)]
+mod lines;
 #[cfg(test)]
 mod numbers;
 #[cfg(test)]
@@ -21,3 +25,5 @@ mod spaces;
 mod strict;
 #[cfg(test)]
 mod words;
+#[cfg(test)]
+mod written;

@@ -1,16 +1,11 @@
-use Rattle.std.proofs.Common.{◌≡◌, ◌≤◌, ℕ, length}
+use Rattle.std.proofs.Common.{◌≡◌, ◌≤◌, take}
 use Rattle.sr_model.specs.Substitution.{substitution}
-use Rattle.sr_model.specs.Meeting.{all_left_meet}
-use Rattle.sr_check.specs.Indexing.{IsLive}
+use Rattle.sr_check.proofs.Choosing.{AreMet}
 use Rattle.sr_check.proofs.witness.meet_all.Given as goal
 
-abbrev pub invariant-loop-number : goal.invariant-loop-number
-invariant-loop-number l = record {
+abbrev pub invariant-loop-i : goal.invariant-loop-i
+invariant-loop-i l = record {
   lits : l.marks.lits ≡ l.fn.marks.lits;
   room : l.fn.marks.room ≤ l.marks.room;
-  live : (n : ℕ) → IsLive l.walk n → IsLive l.trial.live.now n;
-  rest : all_left_meet l.trial.strict l.trial.live.now l.fn.marks.lits (substitution l.trial.subst.now) l.trial.groups.now l.trial.live.now ≡ all_left_meet l.trial.strict l.trial.live.now l.fn.marks.lits (substitution l.trial.subst.now) l.trial.groups.now l.walk;
+  done : AreMet l.trial.strict l.trial.live.now l.fn.marks.lits (substitution l.trial.subst.now) l.trial.groups.now (take l.i l.numbers);
 }
-
-abbrev pub decreases-loop-number : goal.decreases-loop-number
-decreases-loop-number l = length l.walk

@@ -1,17 +1,12 @@
-use Rattle.std.proofs.Common.{◌≡◌, ◌-◌, ◌++◌, ℤ, pos, List, map}
-use Rattle.sr_base.specs.declared.names.LimitKind.TheVariants as limit
+use Rattle.std.proofs.Common.{◌-◌}
 use Rattle.sr_desk.specs.Outside.{OnlyReads}
 use Rattle.sr_desk.specs.Next.{IsSameReader}
-use Rattle.sr_scan.specs.Left.{texts_left}
-use Rattle.sr_model.specs.Lsr.{numbers_after}
-use Rattle.sr_lsr.specs.Reads.{WhereTold}
+use Rattle.sr_lsr.proofs.HintLemmas.{Running}
 use Rattle.sr_lsr.proofs.hints.read_run.Given as goal
 
--- whatever came before, what was read and what is left spell what stood at the front
 abbrev pub invariant-tokens : goal.invariant-tokens
 invariant-tokens g l = record {
-  run : WhereTold (texts_left l.fn.reader (g.D.Desk.outside l.fn.desk)) (texts_left l.reader (g.D.Desk.outside l.desk))
-      (λ all left. (these : List ℤ) → numbers_after limit.Ids l.bound these all ≡ numbers_after limit.Ids l.bound (these ++ map pos l.hints) left);
+  run : Running l.form l.bound l.fn.reader l.reader (g.D.Desk.outside l.fn.desk) (g.D.Desk.outside l.desk) l.hints;
   same : IsSameReader l.fn.reader l.reader;
   only : OnlyReads l.fn.reader.slot (g.D.Desk.outside l.fn.desk) (g.D.Desk.outside l.desk);
 }

@@ -8,9 +8,9 @@ use Rattle.sr_check.proofs.checker.Checker.new.Goals as goal
 
 pub invariant_of-result : goal.invariant_of-result
 invariant_of-result c =
-    let scratch : Scratch = record { alloc = c.args.alloc; marks = c.add_clauses.new.marks; index = c.in-Ok-new.index; left = c.new-3.result } in
+    let scratch : Scratch = record { alloc = c.args.alloc; marks = c.add_clauses.new.marks; index = c.in-Ok-new.index; lists = c.new-3.result; numbers = c.new-4.result; left = c.new-5.result } in
     let ready : IsReady scratch = (c.in-Ok-add_clauses.ensures.lits ∙ ap (λ (m : Marking). m.lits) c.new-marks.ensures, c.in-Ok-new.ensures) in
     let most : c.add_clauses.new.live.most ≡ c.cells-2.result = ap (λ (s : Stored). s.most) c.in-Ok-add_clauses.ensures.live ∙ ap (λ (s : Stored). s.most) c.in-Ok.ensures ∙ sym c.cells-2.ensures.value in
     keeps_new c.add_clauses.new.live.most c.args.formula.clauses c.add_clauses.new.live.clauses c.add_clauses.new.live.last scratch
     (ap (λ (s : Stored). s.clauses) c.in-Ok-add_clauses.ensures.live) (ap (λ (s : Stored). s.last) c.in-Ok-add_clauses.ensures.live)
-    ready c.in-Ok-add_clauses.ensures.room (omega (arith, most, c.cells.ensures, c.if-cells.false)) (omega (arith, most, c.cells-2.ensures.bound))
+    ready c.new-3.ensures c.in-Ok-add_clauses.ensures.room (omega (arith, most, c.cells.ensures, c.if-cells.false)) (omega (arith, most, c.cells-2.ensures.bound))

@@ -1,0 +1,52 @@
+// What is written, gathered before it is sent.
+ghost use Rattle.std.specs.Prelude.{IsTrue, OnOk};
+ghost use Rattle.sr_desk.specs.Outside.{OnlyWrites};
+
+use crate::copying::CopyStop;
+use sr_base::{ByteList, Form};
+use sr_desk::{Desk, Slot, put_all};
+use std::alloc::Global;
+
+/// The most bytes that are gathered.
+const ROOM: usize = 65_536;
+
+/// The form in which proofs are written, if any, and what wasn't sent yet.
+#[derive(Drop)]
+pub struct Output {
+    pub form: Option<Form>,
+    pub bytes: ByteList,
+}
+
+impl Output {
+    pub fn new(alloc: Global, form: Option<Form>) -> Output {
+        Output {
+            form,
+            bytes: ByteList::new(alloc),
+        }
+    }
+
+    /// Adds bytes, and sends what was gathered where that is much.
+    pub fn add<D: Desk>(&mut self, more: &[u8], desk: &mut D) -> Result<(), CopyStop>
+        ensures { OnlyWrites 8 (D.outside desk.old) (D.outside desk.new) }
+    {
+        if self.bytes.extend(more).is_err() {
+            return Err(CopyStop::NoMemory);
+        }
+        if self.bytes.as_slice().len() < ROOM {
+            return Ok(());
+        }
+        self.send(desk)
+    }
+
+    /// Sends what was gathered.
+    pub fn send<D: Desk>(&mut self, desk: &mut D) -> Result<(), CopyStop>
+        ensures { OnlyWrites 8 (D.outside desk.old) (D.outside desk.new) }
+    {
+        let sent = put_all(desk, Slot::OUT, self.bytes.as_slice());
+        self.bytes.cut(0);
+        match sent {
+            Ok(()) => Ok(()),
+            Err(_) => Err(CopyStop::Sink),
+        }
+    }
+}
