@@ -1,10 +1,11 @@
-// The live clauses in a clause memory. A table leads from their numbers to references of the memory, 0 for none. The numbers
-// that were added are kept in order, dead ones among them until the next compaction.
+// The live clauses in a clause memory. A table leads from their numbers to references of the memory, 0 for none. The
+// numbers that were added are kept in order, dead ones among them until the next compaction: so the time of all compactions
+// together is linear in the cells that were added, and doesn't depend on how great the numbers are.
 ghost use Rattle.std.specs.Prelude.{◌≡◌, ◌≢◌, ℕ, ◌+◌, ◌*◌, ◌<◌, ◌≤◌, ◌==◌, ◌↔◌, true, not, [], ◌∷◌, ◌++◌, filter, IsTrue, IfOk, OnOk, OnErr, IfNone, OnSome};
+ghost use Rattle.sr_model.specs.Assignment.{holds_number};
 ghost use Rattle.sr_model.specs.Chain.{clauses};
 ghost use Rattle.sr_model.specs.Judging.{without, first_dead, clause_cells, cells_of};
 ghost use Rattle.sr_check.specs.Pages.{entry};
-ghost use Rattle.sr_model.specs.Assignment.{holds_number};
 ghost use Rattle.sr_check.specs.Storage.{AreDistinct, HoldsLive, Renames};
 
 use crate::dead::find_dead;
@@ -15,7 +16,7 @@ use sr_base::{Limits, Lit, NoMemory};
 use std::alloc::Global;
 use std::marker::Model;
 
-/// The dead cells that are let be however few the live ones are.
+/// The used cells that are let be however few are held.
 const SLACK: u64 = 1_024;
 
 /// The live clauses under their numbers, in the order in which they were added, within a limit of cells.
@@ -153,7 +154,8 @@ impl Storage {
         find_dead(&mut self.mem, &self.table, numbers)
     }
 
-    /// Compacts the memory where its used cells are above twice the held ones and some more. The clauses stay the same.
+    /// Compacts the memory where its used cells are above twice the held ones and some more. The clauses stay as they are,
+    /// also where memory lacks.
     pub fn tidy(&mut self, alloc: Global) -> Result<(), NoMemory>
         ensures same { self.new ≡ record self.old { used = self.new.used } }
         ensures ok { OnOk result (self.new.used ≤ 2 * cells_of (clauses self.old.clauses) + 1024) }
