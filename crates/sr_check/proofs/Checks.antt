@@ -146,6 +146,9 @@ pub numbered_below : (n : ℕ) (f : List (List Literal)) → AreBelow (n + lengt
 numbered_below n [] = tt
 numbered_below n (c ∷ f) = (omega arith, subst (λ k. AreBelow k (numbered_from (n + 1) f)) (omega arith) (numbered_below (n + 1) f))
 
+pub cells_more : (f : List (List Literal)) (i : ℕ) (c : List Literal) → i < length f → c ≡ get_or f i c → cells_of (take (i + 1) f) ≡ cells_of (take i f) + clause_cells c
+cells_more f i c h e = ap cells_of (take_more f i c h ∙ ap (λ x. take i f ++ x ∷ []) (sym e)) ∙ sum_by_push clause_cells (take i f) c
+
 pub cells_take : (f : List (List Literal)) (i : ℕ) (c : List Literal) → i < length f → c ≡ get_or f i c → cells_of (take i f) + clause_cells c ≤ cells_of f
 cells_take f i c h e =
     let more : take (i + 1) f ≡ take i f ++ c ∷ [] = take_more f i c h ∙ ap (λ x. take i f ++ x ∷ []) (sym e) in

@@ -1,7 +1,10 @@
 pub mod Paging
 pub mod Marking
-pub mod Storing
 pub mod Dropping
+pub mod Listing
+pub mod Storing
+pub mod Turns
+pub mod Moving
 pub mod Following
 pub mod Grouping
 pub mod Fitting

@@ -1,5 +1,6 @@
--- What contracts see of a checker: whether it checks strictly, the most cells that it may hold, and its state.
-use Rattle.std.specs.Prelude.{ℕ, ◌+◌, ◌<◌, ◌≤◌, nat_lt, Bool, true, false, not, ◌&&◌, List, [], ◌∷◌, ◌++◌}
+-- What contracts see of a checker: whether it checks strictly, the most cells that it may hold, its state, and the cells
+-- that its memory uses.
+use Rattle.std.specs.Prelude.{ℕ, ◌+◌, ◌<◌, ◌≤◌, nat_lt, Bool, true, false, not, ◌&&◌, cond, List, [], ◌∷◌, ◌++◌}
 use Rattle.sr_base.specs.Literal.{Literal}
 use Rattle.sr_model.specs.Refutation.{is_empty}
 use Rattle.sr_model.specs.Chain.{Numbered, clauses}
@@ -7,6 +8,7 @@ use Rattle.sr_model.specs.Meeting.{Meeting, met, unmet}
 use Rattle.sr_model.specs.Judging.{Item, stepped, dropped, State, item_meets, clause_cells, cells_of}
 use Rattle.sr_model.specs.declared.verdict.Verdict.{Verdict}
 use Rattle.sr_check.specs.declared.meeting.Scratch.{Scratch}
+use Rattle.sr_check.specs.Storage.{Stored}
 use Rattle.sr_check.specs.Ready.{IsReady}
 use Rattle.sr_check.specs.Occurring.{KeepsListed}
 use Rattle.sr_check.specs.Candidates.{AreRising}
@@ -16,9 +18,10 @@ pub record Checking : Type 0 where
   pub strict : Bool
   pub most : ℕ
   pub state : State
+  pub used : ℕ
 
-abbrev pub checking : Bool → ℕ → Numbered → ℕ → Verdict → Checking
-checking strict most live last verdict = record { strict = strict; most = most; state = record { live = record { clauses = live; last = last }; verdict = verdict } }
+abbrev pub checking : Bool → Stored → Verdict → Checking
+checking strict live verdict = record { strict = strict; most = live.most; state = record { live = record { clauses = live.clauses; last = live.last }; verdict = verdict }; used = live.used }
 
 abbrev pub is_met : Meeting → Bool
 is_met met = true
@@ -29,9 +32,14 @@ abbrev pub passes_cells : Checking → Item → Bool
 passes_cells c (stepped s) = is_met (item_meets c.strict c.state.live (stepped s)) && (not (is_empty s.clause) && nat_lt c.most (cells_of (clauses c.state.live.clauses) + clause_cells s.clause))
 passes_cells c (dropped id ids) = false
 
+-- the cells of the clause that becomes live with the item
+abbrev pub new_cells : Checking → Item → ℕ
+new_cells c (stepped s) = cond (is_met (item_meets c.strict c.state.live (stepped s)) && not (is_empty s.clause)) (clause_cells s.clause) 0
+new_cells c (dropped id ids) = 0
+
 -- a clause becomes live under a new number
 abbrev pub added : Checking → ℕ → List Literal → Checking
-added c id lits = checking c.strict c.most (c.state.live.clauses ++ (id, lits) ∷ []) id c.state.verdict
+added c id lits = record c { state = record { live = record { clauses = c.state.live.clauses ++ (id, lits) ∷ []; last = id }; verdict = c.state.verdict }; used = c.used + clause_cells lits }
 
 -- each number is below a bound
 abbrev pub AreBelow : ℕ → Numbered → Type 0

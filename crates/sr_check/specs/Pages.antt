@@ -1,5 +1,5 @@
 -- A table in pages of 4,096 numbers.
-use Rattle.std.specs.Prelude.{ℕ, ◌+◌, ◌*◌, ◌/◌, ◌%◌, ◌<◌, ◌≤◌, ◌==◌, ◌≡◌, ◌⊎◌, cond, List, length, slice_index_or}
+use Rattle.std.specs.Prelude.{ℕ, ◌+◌, ◌*◌, ◌/◌, ◌%◌, ◌<◌, ◌≤◌, ◌==◌, ◌≡◌, ◌≢◌, ◌⊎◌, cond, List, length, slice_index_or}
 
 -- for each page the place where its entries lie, counted in pages, and the entries
 pub record Paged : Type 0 where
@@ -16,6 +16,10 @@ paged pages entries = record { pages = pages; entries = entries }
 -- the same table, in other pages
 abbrev pub SameEntries : Paged → Paged → Type 0
 SameEntries old new = (m : ℕ) → entry new m ≡ entry old m
+
+-- there is a page for a number
+abbrev pub IsOpen : Paged → ℕ → Type 0
+IsOpen t n = slice_index_or t.pages (n / 4096) 0 ≢ 0
 
 -- one number is set, and all others stay
 abbrev pub Sets : Paged → Paged → ℕ → ℕ → Type 0

@@ -1,18 +1,20 @@
 // The checker: the live clauses, the greatest number so far, and the verdict.
-ghost use Rattle.std.specs.Prelude.{◌≡◌, ◌+◌, ◌<◌, ◌≤◌, ◌∷◌, ◌++◌, [], true, false, cond, IfOk, OnOk, OnErr, IfNone, OnSome};
+ghost use Rattle.std.specs.Prelude.{◌≡◌, ◌+◌, ◌*◌, ◌<◌, ◌≤◌, ◌∷◌, ◌++◌, [], true, false, cond, length, IfOk, OnOk, OnErr, IfNone, OnSome};
 ghost use Rattle.sr_model.specs.Chain.{clauses};
 ghost use Rattle.sr_model.specs.Meeting.{met};
 ghost use Rattle.sr_model.specs.Judging.{clause_cells, cells_of, numbered_from, without, first_dead, drop_meets, start, after_item, stepped, dropped};
 ghost use Rattle.sr_wit.specs.LsrItems.{item_of};
-ghost use Rattle.sr_check.specs.Checking.{passes_cells, added};
+ghost use Rattle.sr_check.specs.Checking.{passes_cells, new_cells, added};
+ghost use Rattle.sr_check.specs.Storage.{HoldsLive};
 ghost use Rattle.sr_check.specs.Trail.{CoversClauses};
 
-use crate::live::LiveClauses;
 use crate::marks::{Marks, cover_all};
 use crate::meeting::{Meet, Scratch, meet_step};
 use crate::number_set::NumberSet;
 use crate::occurrences::Occurrences;
 use crate::pages::Table;
+use crate::storage::Storage;
+use sr_arena::ClauseMem;
 use sr_base::{AddStop, Cause, Items, Limits, Lit, NoMemory};
 use sr_model::Verdict;
 use sr_wit::{Formula, LsrItem, Step};
@@ -51,9 +53,7 @@ impl From<NoMemory> for TakeStop {
 #[derive(Drop)]
 pub struct Checker {
     strict: bool,
-    most: u32,
-    live: LiveClauses,
-    last: u32,
+    live: Storage,
     verdict: Verdict,
     scratch: Scratch,
 }
@@ -63,9 +63,9 @@ impl Model for Checker {
 
     ghost Value = { Checking };
 
-    ghost view = { λ c. checking c.strict c.most c.live c.last c.verdict };
+    ghost view = { λ c. checking c.strict c.live c.verdict };
 
-    ghost invariant = { λ c. KeepsChecking c.most c.live c.last c.scratch };
+    ghost invariant = { λ c. KeepsChecking c.live.most c.live.clauses c.live.last c.scratch };
 }
 
 impl Checker {
@@ -79,15 +79,14 @@ impl Checker {
         limits: &Limits,
         strict: bool,
     ) -> Result<Checker, AddStop>
-        ensures ok { IfOk result (λ c. c ≡ record { strict = strict; most = limits.now.cells; state = start formula.clauses }) }
+        ensures ok { IfOk result (λ c. c ≡ record { strict = strict; most = limits.now.cells; state = start formula.clauses; used = cells_of formula.clauses }) }
         ensures cells { result ≡ Err AddStop.Cells → limits.now.cells < cells_of formula.clauses }
         ensures fits { OnOk result (cells_of formula.clauses ≤ limits.now.cells) }
     {
-        let most = limits.cells();
-        if formula.cells() > most as u64 {
+        if formula.cells() > limits.cells() as u64 {
             return Err(AddStop::Cells);
         }
-        let Ok(mut live) = LiveClauses::new(alloc) else {
+        let Ok(mut live) = Storage::new(alloc, limits) else {
             return Err(AddStop::NoMemory);
         };
         let Ok(index) = Table::new(alloc) else {
@@ -107,9 +106,7 @@ impl Checker {
         };
         Ok(Checker {
             strict,
-            most,
             live,
-            last: formula.count(),
             verdict,
             scratch: Scratch {
                 alloc,
@@ -120,6 +117,15 @@ impl Checker {
                 left: Items::new(alloc),
             },
         })
+    }
+
+    /// The memory of the clauses. It holds the live ones, each once, and no others.
+    pub fn memory(&self) -> &ClauseMem
+        ensures holds { HoldsLive result.now self.now.state.live.clauses }
+        ensures used { result.now.used ≡ self.now.used }
+        ensures most { result.now.most ≡ self.now.most }
+    {
+        self.live.memory()
     }
 
     /// Where judging stands.
@@ -136,15 +142,17 @@ impl Checker {
     /// the proof only under strict checking, where it names one that isn't live.
     ///
     /// `Cells` comes only for a step that is met and whose clause would pass the limit. After it, and where memory
-    /// lacks, the checker is as it was.
+    /// lacks, the checker is as it was; its memory may have been compacted.
     pub fn take(&mut self, item: LsrItem) -> Result<Verdict, TakeStop>
         requires { self.old.state.verdict ≡ Verdict.Going }
-        ensures state { OnOk result (self.new ≡ record self.old { state = after_item self.old.strict self.old.state (item_of item) }) }
+        ensures state { OnOk result (self.new ≡ record self.old { state = after_item self.old.strict self.old.state (item_of item); used = self.new.used }) }
         ensures verdict { IfOk result (λ v. v ≡ self.new.state.verdict) }
+        ensures used { OnOk result (self.new.used ≤ 2 * cells_of (clauses self.old.state.live.clauses) + 1024 + new_cells self.old (item_of item)) }
         ensures cells { result ≡ Err TakeStop.Cells → passes_cells self.old (item_of item) ≡ true }
         ensures fits { OnOk result (passes_cells self.old (item_of item) ≡ false) }
-        ensures err { OnErr result (self.new ≡ self.old) }
+        ensures err { OnErr result (self.new ≡ record self.old { used = self.new.used }) }
     {
+        self.live.tidy(self.scratch.alloc)?;
         match item {
             LsrItem::Step(step) => self.take_step(&step),
             LsrItem::Drop { id, ids } => Ok(self.take_drop(id, ids.as_slice())),
@@ -154,14 +162,20 @@ impl Checker {
     /// Takes a step.
     fn take_step(&mut self, step: &Step) -> Result<Verdict, TakeStop>
         requires { self.old.state.verdict ≡ Verdict.Going }
-        ensures state { OnOk result (self.new ≡ record self.old { state = after_item self.old.strict self.old.state (stepped step.now) }) }
+        ensures state { OnOk result (self.new ≡ record self.old { state = after_item self.old.strict self.old.state (stepped step.now); used = self.old.used + new_cells self.old (stepped step.now) }) }
         ensures verdict { IfOk result (λ v. v ≡ self.new.state.verdict) }
         ensures cells { result ≡ Err TakeStop.Cells → passes_cells self.old (stepped step.now) ≡ true }
         ensures fits { OnOk result (passes_cells self.old (stepped step.now) ≡ false) }
         ensures err { OnErr result (self.new ≡ self.old) }
     {
         let id = step.id();
-        match meet_step(self.strict, &self.live, self.last, &mut self.scratch, step)? {
+        match meet_step(
+            self.strict,
+            &self.live.clauses(),
+            self.live.last(),
+            &mut self.scratch,
+            step,
+        )? {
             Meet::Unmet(cause) => {
                 self.verdict = Verdict::Rejected { id, cause };
                 Ok(self.verdict)
@@ -186,13 +200,12 @@ impl Checker {
         ensures fits { OnOk result (cells_of (clauses self.old.state.live.clauses) + clause_cells lits.now ≤ self.old.most) }
         ensures err { OnErr result (self.new ≡ self.old) }
     {
-        if self.live.cells() + lits.len() as u64 + 4 > self.most as u64 {
+        if !self.live.has_room(lits) {
             return Err(TakeStop::Cells);
         }
         cover_all(&mut self.scratch.marks, lits)?;
         self.scratch.lists.enter(id, lits)?;
         self.live.add_last(id, lits)?;
-        self.last = id;
         self.scratch.lists.limit(2 * self.live.cells() + SLACK);
         Ok(())
     }
@@ -203,21 +216,20 @@ impl Checker {
         ensures state { self.new ≡ record self.old { state = after_item self.old.strict self.old.state (dropped id ids.now) } }
         ensures verdict { result ≡ self.new.state.verdict }
     {
-        if let Some(dead) = drop_clauses(self.strict, &mut self.live, ids) {
-            let cause = Cause::DeadDrop(dead);
-            self.verdict = Verdict::Rejected { id, cause };
+        let Some(dead) = drop_clauses(self.strict, &mut self.live, ids) else {
             return self.verdict;
-        }
-        self.live.tidy(self.scratch.alloc);
+        };
+        let cause = Cause::DeadDrop(dead);
+        self.verdict = Verdict::Rejected { id, cause };
         self.verdict
     }
 }
 
 /// Removes the clauses of the numbers. Strict checking tells the first number that isn't live when its turn comes, and
 /// then removes none.
-fn drop_clauses(strict: bool, live: &mut LiveClauses, ids: &[u32]) -> Option<u32>
-    ensures dead { drop_meets result ≡ cond strict (drop_meets (first_dead live.old ids.now)) met }
-    ensures removed { IfNone result (live.new ≡ without ids.now live.old) }
+fn drop_clauses(strict: bool, live: &mut Storage, ids: &[u32]) -> Option<u32>
+    ensures dead { drop_meets result ≡ cond strict (drop_meets (first_dead live.old.clauses ids.now)) met }
+    ensures removed { IfNone result (live.new ≡ record live.old { clauses = without ids.now live.old.clauses }) }
     ensures kept { OnSome result (live.new ≡ live.old) }
 {
     if strict {
@@ -228,12 +240,13 @@ fn drop_clauses(strict: bool, live: &mut LiveClauses, ids: &[u32]) -> Option<u32
 }
 
 /// Adds the clauses of a formula under their numbers, and makes room for the marks of their literals.
-fn add_clauses(live: &mut LiveClauses, marks: &mut Marks, formula: &Formula) -> Result<(), NoMemory>
-    requires live { live.old ≡ [] }
-    requires small { cells_of formula.now.clauses < 4294967296 }
-    ensures live { OnOk result (live.new ≡ numbered_from 1 formula.now.clauses) }
+fn add_clauses(live: &mut Storage, marks: &mut Marks, formula: &Formula) -> Result<(), NoMemory>
+    requires none { live.old.clauses ≡ [] }
+    requires last { live.old.last ≡ 0 }
+    requires fits { cells_of formula.now.clauses ≤ live.old.most }
+    ensures live { OnOk result (live.new ≡ record live.old { clauses = numbered_from 1 formula.now.clauses; last = length formula.now.clauses; used = live.old.used + cells_of formula.now.clauses }) }
     ensures lits { marks.new.lits ≡ marks.old.lits }
-    ensures room { OnOk result (CoversClauses marks.new.room (clauses live.new)) }
+    ensures room { OnOk result (CoversClauses marks.new.room (clauses live.new.clauses)) }
 {
     for i in 0..formula.count() {
         let lits = formula.clause(i + 1);

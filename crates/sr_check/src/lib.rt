@@ -6,6 +6,7 @@
 mod candidates;
 mod chains;
 mod checker;
+mod dead;
 mod groups;
 mod live;
 mod marks;
@@ -14,6 +15,7 @@ mod number_list;
 mod number_set;
 mod occurrences;
 mod pages;
+mod storage;
 #[cfg(test)]
 mod tests;
 mod walk;

@@ -1,7 +1,7 @@
 // A table from clause numbers to places, in pages. A page is made when a number of it is first set, and numbers whose
 // page wasn't made share the first one, which holds zeros. So a look-up is two loads.
 ghost use Rattle.std.specs.Prelude.{◌≡◌, ◌≢◌, ℕ, ◌+◌, ◌*◌, ◌/◌, ◌<◌, ◌++◌, vec_len, slice_index_or, replicate, IfOk, OnOk, OnErr};
-ghost use Rattle.sr_check.specs.Pages.{entry, paged, Sets, SameEntries, IsPaged};
+ghost use Rattle.sr_check.specs.Pages.{entry, paged, IsOpen, Sets, SameEntries, IsPaged};
 
 use sr_base::NoMemory;
 use std::alloc::Global;
@@ -62,6 +62,32 @@ impl Table {
         let at = self.pages[page] * PAGE + number as usize % PAGE;
         self.entries[at] = to;
         Ok(())
+    }
+
+    /// Makes the page of a number, so that the number can be put without memory.
+    pub fn open(&mut self, number: u32) -> Result<(), NoMemory>
+        ensures same { SameEntries self.old self.new }
+        ensures ok { OnOk result (IsOpen self.new number) }
+    {
+        open_page(&mut self.pages, &mut self.entries, number as usize / PAGE)
+    }
+
+    /// Sets a number whose page was made.
+    pub fn put(&mut self, number: u32, to: u32)
+        requires { IsOpen self.old number }
+        ensures { Sets self.old self.new number to }
+    {
+        let at = self.pages[number as usize / PAGE] * PAGE + number as usize % PAGE;
+        self.entries[at] = to;
+    }
+
+    /// Sets a number anew that is set. It takes no memory.
+    pub fn change(&mut self, number: u32, to: u32)
+        requires { entry self.old number ≢ 0 }
+        ensures { Sets self.old self.new number to }
+    {
+        let at = self.pages[number as usize / PAGE] * PAGE + number as usize % PAGE;
+        self.entries[at] = to;
     }
 
     /// Sets a number back to 0. It takes no memory.

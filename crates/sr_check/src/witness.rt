@@ -23,7 +23,7 @@ use sr_wit::{Group, Reduced, Subst};
 #[derive(Clone, Copy)]
 pub struct Trial<'a> {
     pub strict: bool,
-    pub live: &'a LiveClauses,
+    pub live: &'a LiveClauses<'a>,
     pub subst: &'a Subst,
     pub groups: &'a [Group],
     pub index: &'a Table,

@@ -28,7 +28,7 @@ use Rattle.sr_cli.specs.declared.proof.Tally.{Tally}
 use Rattle.sr_cli.specs.declared.check.Checked.{Checked}
 
 -- a new checker holds the clauses of its formula
-pub first_clauses : (c : Checking) (strict : Bool) (most : ℕ) (f : List (List Literal)) → c ≡ record { strict = strict; most = most; state = start f } → clauses c.state.live.clauses ≡ f
+pub first_clauses : (c : Checking) (strict : Bool) (most : ℕ) (f : List (List Literal)) → c ≡ record { strict = strict; most = most; state = start f; used = cells_of f } → clauses c.state.live.clauses ≡ f
 first_clauses c strict most f e = ap (λ (k : Checking). clauses k.state.live.clauses) e ∙ clauses_numbered 1 f
 
 later_rose : (a b c : ℕ) → a ≤ b → Rose b c → Rose a c
@@ -117,8 +117,9 @@ refuted_judged lim form strict f proof r o0 fits full one is_o is_k =
     }
 
 -- a new checker tells its formula
-pub fresh_self : (c : Checking) (strict : Bool) (most : ℕ) (f : List (List Literal)) → c ≡ record { strict = strict; most = most; state = start f }
-    → c ≡ record { strict = c.strict; most = most; state = start (clauses c.state.live.clauses) }
+pub fresh_self : (c : Checking) (strict : Bool) (most : ℕ) (f : List (List Literal)) → c ≡ record { strict = strict; most = most; state = start f; used = cells_of f }
+    → c ≡ record { strict = c.strict; most = most; state = start (clauses c.state.live.clauses); used = c.used }
 fresh_self c strict most f e =
-    e ∙ ap (λ (s : Bool). record { strict = s; most = most; state = start f }) (sym (ap (λ (k : Checking). k.strict) e))
-    ∙ ap (λ (g : List (List Literal)). record { strict = c.strict; most = most; state = start g }) (sym (first_clauses c strict most f e))
+    e ∙ ap (λ (s : Bool). record { strict = s; most = most; state = start f; used = cells_of f }) (sym (ap (λ (k : Checking). k.strict) e))
+    ∙ ap (λ (g : List (List Literal)). record { strict = c.strict; most = most; state = start g; used = cells_of f }) (sym (first_clauses c strict most f e))
+    ∙ ap (λ (u : ℕ). record { strict = c.strict; most = most; state = start (clauses c.state.live.clauses); used = u }) (sym (ap (λ (k : Checking). k.used) e))

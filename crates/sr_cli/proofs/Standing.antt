@@ -33,7 +33,7 @@ use Rattle.sr_cli.specs.declared.proof.Tally.{Tally}
 
 -- before the first item
 pub stands_first : (lim : LimitValues) (form : Form) (strict : Bool) (f : List (List Literal)) (start' : Option Texts) (c : Checking) → has_empty f ≡ false
-    → c ≡ record { strict = strict; most = lim.cells; state = start f } → Stands lim form strict f start' start' c (record { steps = 0; hints = 0 })
+    → c ≡ record { strict = strict; most = lim.cells; state = start f; used = c.used } → Stands lim form strict f start' start' c (record { steps = 0; hints = 0 })
 stands_first lim form strict f start' c full fresh = record {
   items = [];
   pivots = tt;
@@ -98,8 +98,8 @@ stands_more lim form strict f start' now new c c' t u x s gives pivot takes =
       pivots = pivots_append s.items it s.pivots pivot;
       going = judged_append strict f s.items it s.going ∙ rw (g.is_met, g.is_open) refl;
       fits = fits_append lim.cells (first_live f) s.items it s.fits g.fits;
-      checker = takes.1 ∙ ap (λ (k : Checking). record k { state = record { live = live_with k.state.live it; verdict = Going } }) s.checker
-          ∙ ap (λ (l : Live). record { strict = strict; most = lim.cells; state = record { live = l; verdict = Going } }) (sym (live_append (first_live f) s.items it));
+      checker = takes.1 ∙ ap (λ (k : Checking). record k { state = record { live = live_with k.state.live it; verdict = Going }; used = c'.used }) s.checker
+          ∙ ap (λ (l : Live). record { strict = strict; most = lim.cells; state = record { live = l; verdict = Going }; used = c'.used }) (sym (live_append (first_live f) s.items it));
       steps = takes.2.0 ∙ ap (λ n. n + item_steps it) s.steps ∙ steps_push s.items it;
       hints = takes.2.1 ∙ ap (λ n. n + item_hints it) s.hints ∙ hints_push s.items it;
       spelled = λ all h.

@@ -26,7 +26,7 @@ pub record Stands (lim : LimitValues) (form : Form) (strict : Bool) (f : List (L
   pub pivots : HavePivots items
   pub going : judge strict f items ≡ Going
   pub fits : CellsFit lim.cells (first_live f) items
-  pub checker : c ≡ record { strict = strict; most = lim.cells; state = record { live = live_after (first_live f) items; verdict = Going } }
+  pub checker : c ≡ record { strict = strict; most = lim.cells; state = record { live = live_after (first_live f) items; verdict = Going }; used = c.used }
   pub steps : t.steps ≡ steps_of items
   pub hints : t.hints ≡ hints_of items
   pub spelled : (all : Texts) → start ≡ Some all → (rest : Texts) × (now ≡ Some rest) × SpellItemsIn form lim all items rest
@@ -39,7 +39,7 @@ Tallies old it (Some new) = (new.steps ≡ old.steps + item_steps it) × (new.hi
 -- an item was taken: judging goes on, or ends
 abbrev pub Takes : Checking → Checking → Tally → Tally → Item → Option Outcome → Type 0
 Takes old new t u it None = (by_item old.most old.strict old.state.live it ≡ None)
-    × (new ≡ record old { state = record { live = live_with old.state.live it; verdict = Going } }) × Tallies t it (Some u)
+    × (new ≡ record old { state = record { live = live_with old.state.live it; verdict = Going }; used = new.used }) × Tallies t it (Some u)
 Takes old new t u it (Some outcome.NoMemory) = Unit {0}
 Takes old new t u it (Some o) = (by_item old.most old.strict old.state.live it ≡ Some o) × (o ≡ outcome.Verified None None → Tallies t it (Some u))
 

@@ -121,7 +121,7 @@ pub(crate) fn judge_proof<D: Desk>(
 ) -> Outcome
     ghost f: { List (List Literal) }
     requires reads { IsTrue ((D.outside desk.old).slot reader.old.slot).reads }
-    requires fresh { checker ≡ record { strict = checker.strict; most = limits.now.cells; state = start f } }
+    requires fresh { checker ≡ record { strict = checker.strict; most = limits.now.cells; state = start f; used = checker.used } }
     requires going { has_empty f ≡ false }
     requires none { tally.old ≡ record { steps = 0; hints = 0 } }
     ensures judges { Judges limits.now form checker.strict f (tokens_left form 2 0 reader.old (D.outside desk.old)) result tally.new }

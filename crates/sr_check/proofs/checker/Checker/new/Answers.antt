@@ -1,5 +1,6 @@
-use Rattle.std.proofs.Common.{arith, ap, ◌∙◌}
+use Rattle.std.proofs.Common.{◌≡◌, arith, ap, sym, ◌∙◌}
 use Rattle.sr_check.specs.declared.meeting.Scratch.{Scratch}
+use Rattle.sr_check.specs.Storage.{Stored}
 use Rattle.sr_check.specs.Ready.{IsReady}
 use Rattle.sr_check.specs.Trail.{Marking}
 use Rattle.sr_check.proofs.Checks.{keeps_new}
@@ -9,4 +10,7 @@ pub invariant_of-result : goal.invariant_of-result
 invariant_of-result c =
     let scratch : Scratch = record { alloc = c.args.alloc; marks = c.add_clauses.new.marks; index = c.in-Ok-new.index; lists = c.new-4.result; numbers = c.in-Ok-new-2.numbers; left = c.new-5.result } in
     let ready : IsReady scratch = (c.in-Ok-add_clauses.ensures.lits ∙ ap (λ (m : Marking). m.lits) c.new-marks.ensures, c.in-Ok-new.ensures) in
-    keeps_new c.cells-most.result c.args.formula.clauses c.add_clauses.new.live c.count.result scratch c.in-Ok-add_clauses.ensures.live c.count.ensures.value ready c.new-4.ensures c.in-Ok-add_clauses.ensures.room (omega (arith, c.cells.ensures, c.if-cells-most.false)) c.cells-most.ensures.bound
+    let most : c.add_clauses.new.live.most ≡ c.cells-2.result = ap (λ (s : Stored). s.most) c.in-Ok-add_clauses.ensures.live ∙ ap (λ (s : Stored). s.most) c.in-Ok.ensures ∙ sym c.cells-2.ensures.value in
+    keeps_new c.add_clauses.new.live.most c.args.formula.clauses c.add_clauses.new.live.clauses c.add_clauses.new.live.last scratch
+    (ap (λ (s : Stored). s.clauses) c.in-Ok-add_clauses.ensures.live) (ap (λ (s : Stored). s.last) c.in-Ok-add_clauses.ensures.live)
+    ready c.new-4.ensures c.in-Ok-add_clauses.ensures.room (omega (arith, most, c.cells.ensures, c.if-cells.false)) (omega (arith, most, c.cells-2.ensures.bound))

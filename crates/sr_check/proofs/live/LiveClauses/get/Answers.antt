@@ -1,15 +1,9 @@
-use Rattle.std.proofs.Common.{◌∙◌, ◌+◌, ◌-◌, sym, ap, take, drop, Some}
-use Rattle.sr_model.specs.Chain.{clause_of}
+use Rattle.std.proofs.Common.{◌∙◌, sym, arith}
 use Rattle.sr_check.proofs.Storing.{read_none, read_some}
 use Rattle.sr_check.proofs.live.LiveClauses.get.Goals as goal
 
-pub returns-then-not-place : goal.returns-then-not-place
-returns-then-not-place c = sym (ap (λ x. clause_of x c.args.number) (sym c.self.view_is)
-    ∙ read_none c.self.inside.lits.items c.self.inside.places.items c.self.inside.table c.self.inside.cells c.args.number c.get.result c.index-place.result.now c.self.invariant c.get.ensures c.index-place.ensures c.if-not-place.true)
+pub returns-in_default : goal.returns-in_default
+returns-in_default c = read_none c.self.inside.mem.now c.self.inside.ids.now c.self.inside.table.now c.args.number c.args.self.now c.self.view_is c.self.invariant (sym c.get.ensures ∙ sym c.in_default.ensures)
 
 pub returns : goal.returns
-returns c =
-    let p = c.index-place.result.now in
-    ap (λ x. Some (take (p.start + p.len - p.start) (drop p.start x))) c.deref.ensures.value
-    ∙ sym (ap (λ x. clause_of x c.args.number) (sym c.self.view_is)
-    ∙ read_some c.self.inside.lits.items c.self.inside.places.items c.self.inside.table c.self.inside.cells c.args.number c.get.result c.index-place.result.now c.self.invariant c.get.ensures c.index-place.ensures c.if-not-place.false)
+returns c = read_some c.self.inside.mem.now c.self.inside.ids.now c.self.inside.table.now c.args.number c.in-Some.at c.peek.result.now c.args.self.now c.self.view_is c.self.invariant (c.in-Some.ensures ∙ c.get.ensures) (omega arith) c.peek.ensures
