@@ -55,3 +55,6 @@ returns-in-Ok-None-clause-only g c = OnlyReads-trans c.items.invariant.only (rw 
 
 pub returns-in-Some-clause-only : goal.returns-in-Some-clause-only
 returns-in-Some-clause-only g c = OnlyReads-trans c.items.invariant.only (rw c.items.invariant.same.slot at c.next_item.ensures.only)
+
+pub returns-in-Err-clause-only : goal.returns-in-Err-clause-only
+returns-in-Err-clause-only g c = OnlyReads-trans c.items.invariant.only (rw c.items.invariant.same.slot at c.next_item.ensures.only)
