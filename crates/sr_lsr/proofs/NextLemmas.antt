@@ -1,5 +1,5 @@
 -- The item at the front, by its first token.
-use Rattle.std.proofs.Common.{◌≡◌, ◌≢◌, ℕ, ◌-◌, ◌<◌, sym, subst, refl, Option, Some, None, Ok, Err, arith}
+use Rattle.std.proofs.Common.{◌≡◌, ◌≢◌, ◌-◌, ◌<◌, sym, subst, refl, Option, Some, None, Ok, Err, arith}
 use Rattle.std.specs.Prelude.{Result, IfOk, OnSome}
 use Rattle.sr_base.specs.Limits.{LimitValues}
 use Rattle.sr_base.specs.declared.names.Form.{Form}
