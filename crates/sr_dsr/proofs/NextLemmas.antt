@@ -22,6 +22,7 @@ use Rattle.sr_lemma.specs.declared.lemma.DsrLine.{DsrLine}
 use Rattle.sr_lemma.specs.Laws.{front_word}
 use Rattle.sr_lemma.specs.Left.{tokens_left}
 use Rattle.sr_lemma.specs.Reads.{GivesFront}
+use Rattle.sr_lemma.proofs.NumberLemmas.{front_stands, takes_token}
 use Rattle.sr_dsr.specs.Gives.{StopsLine, GivesLineBehind, GivesLine, TakesSome}
 
 -- where there is no token
@@ -44,17 +45,6 @@ line_unbegun f lim old new before after left (Limit limit.Ids) given = absurd gi
 line_unbegun f lim old new before after left (Limit limit.Cells) given = absurd given
 line_unbegun f lim old new before after left Source given = λ all h. tt
 line_unbegun f lim old new before after left NoMemory given = absurd given
-
--- the token at the front, before what is left
-front_stands : (old new : Option Texts) (place : ℕ) (w : Word) → StandsFirst old new place w → (all : Texts) → old ≡ Some all → (rest : Texts) × (all ≡ front_word place w rest) × (new ≡ Some rest)
-front_stands old new place word.End first all h = let s = first all h in (finished place, s.0, s.1)
-front_stands old new place (word.Number x) first all h = let s = first all h in (s.0, s.1, s.2)
-front_stands old new place word.Add first all h = let s = first all h in (s.0, s.1, s.2)
-front_stands old new place word.Del first all h = let s = first all h in (s.0, s.1, s.2)
-front_stands old new place word.Header first all h = let s = first all h in (s.0, s.1, s.2)
-front_stands old new place word.Cnf first all h = let s = first all h in (s.0, s.1, s.2)
-front_stands old new place word.Percent first all h = let s = first all h in (s.0, s.1, s.2)
-front_stands old new place word.Other first all h = let s = first all h in (s.0, s.1, s.2)
 
 stops_same : (e : InFault) (m n : LineRead) → m ≡ n → StopsLine e n → StopsLine e m
 stops_same (Text kind place) m n same s = same ∙ s
@@ -87,16 +77,6 @@ line_begun_in f k lim t old mid new before between after result e first given = 
     (subst (λ (x : Form). GivesLineBehind x lim t (tokens_left x 1 (open_after 1 0 t.word) mid between) (tokens_left x 1 0 new after) result) (sym e) given)
 
 -- a line takes its first token
-takes_token : (old mid : Reader) (w : Word) → Advances old mid w → w ≢ word.End → TakesSome old mid
-takes_token old mid word.End a ne = absurd (ne refl)
-takes_token old mid (word.Number x) a ne = a
-takes_token old mid word.Add a ne = a
-takes_token old mid word.Del a ne = a
-takes_token old mid word.Header a ne = a
-takes_token old mid word.Cnf a ne = a
-takes_token old mid word.Percent a ne = a
-takes_token old mid word.Other a ne = a
-
 pub line_takes : (old mid new : Reader) (w : Word) (result : Result (Option DsrLine) InFault) → Advances old mid w → IsSameReader mid new → IfOk result (λ o. OnSome o (w ≢ word.End)) → IfOk result (λ o. OnSome o (TakesSome old new))
 line_takes old mid new w (Ok (Some l)) a s ne =
     let first : mid.limit - mid.taken < old.limit - old.taken = takes_token old mid w a ne in

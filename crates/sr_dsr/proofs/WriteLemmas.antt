@@ -14,13 +14,10 @@ use Rattle.sr_lemma.specs.declared.lemma.DsrLine.{DsrLine}
 use Rattle.sr_lemma.specs.declared.lemma.DsrLine.TheVariants.{Add, Del}
 use Rattle.sr_lemma.specs.Lines.{lemma_told, line_of}
 use Rattle.sr_lemma.specs.Written.{written_numbers, written_end}
+use Rattle.sr_lemma.proofs.WriteLemmas.{spaced_is}
 use Rattle.sr_dsr.specs.Written.{written_start}
 
--- numbers with a space after each
-spaced_is : (xs : List ℤ) → written_numbers Text xs ≡ spaced xs
-spaced_is [] = refl
-spaced_is (x ∷ xs) = append_assoc (signed_decimal x) (32 ∷ []) (written_numbers Text xs) ∙ ap (λ l. signed_decimal x ++ 32 ∷ l) (spaced_is xs)
-
+-- lemmas and deletions
 pub lemma_parts : (f : Form) (l : Lemma) → written_start f false ++ written_numbers f (literals_written l.clause l.witness) ++ written_end f ≡ written_line f (lemma_line l)
 lemma_parts Text l = ap (λ x. x ++ codes "0\n") (spaced_is (literals_written l.clause l.witness))
 lemma_parts Binary l = refl

@@ -1,5 +1,5 @@
 -- What a token does to the numbers that are read.
-use Rattle.std.proofs.Common.{◌≡◌, ◌∙◌, ℕ, ℤ, pos, negsuc, zero, suc, ◌<◌, ◌≤◌, refl, sym, ap, subst, map, List, [], ◌∷◌, ◌++◌, true, false, Option, Some, Ok, Err, arith}
+use Rattle.std.proofs.Common.{◌≡◌, ◌∙◌, ℕ, ℤ, pos, negsuc, zero, suc, ◌-◌, ◌<◌, ◌≤◌, refl, sym, ap, subst, map, List, [], ◌∷◌, ◌++◌, true, false, Option, Some, Ok, Err, arith}
 use Rattle.std.specs.Prelude.{nat_abs, nat_le}
 use Rattle.std.proofs.lemmas.Bool.Decides.{nat_tests}
 use Rattle.std.proofs.lemmas.List.{map_push}
@@ -16,9 +16,10 @@ use Rattle.sr_model.specs.declared.tokens.Word.TheVariants as word
 use Rattle.sr_model.specs.Texts.{Texts, finished, next}
 use Rattle.sr_model.specs.Binary.{open_after}
 use Rattle.sr_model.specs.Lsr.{NumbersRead, bad, above, by_number, by_word, numbers_after}
-use Rattle.sr_scan.specs.Left.{StandsFirst}
+use Rattle.sr_scan.specs.Left.{StandsFirst, Advances}
 use Rattle.sr_wit.specs.declared.fault.InFault.{InFault}
 use Rattle.sr_wit.specs.declared.fault.InFault.TheVariants.{Text, Limit, Source, NoMemory}
+use Rattle.sr_lemma.specs.Laws.{front_word}
 use Rattle.sr_lemma.specs.Left.{tokens_left}
 use Rattle.sr_lemma.specs.Reads.{misplaced, WhereTold, StopsNumbers, GivesFront, GivesLiterals}
 
@@ -99,6 +100,28 @@ front_stop form lists o old new before after (Limit limit.Ids) given kind bound 
 front_stop form lists o old new before after (Limit limit.Cells) given kind bound these all h = absurd given
 front_stop form lists o old new before after Source given kind bound these all h = tt
 front_stop form lists o old new before after NoMemory given kind bound these all h = absurd given
+
+-- the token at the front, before what is left
+pub front_stands : (old new : Option Texts) (place : ℕ) (w : Word) → StandsFirst old new place w → (all : Texts) → old ≡ Some all → (rest : Texts) × (all ≡ front_word place w rest) × (new ≡ Some rest)
+front_stands old new place word.End first all h = let s = first all h in (finished place, s.0, s.1)
+front_stands old new place (word.Number x) first all h = let s = first all h in (s.0, s.1, s.2)
+front_stands old new place word.Add first all h = let s = first all h in (s.0, s.1, s.2)
+front_stands old new place word.Del first all h = let s = first all h in (s.0, s.1, s.2)
+front_stands old new place word.Header first all h = let s = first all h in (s.0, s.1, s.2)
+front_stands old new place word.Cnf first all h = let s = first all h in (s.0, s.1, s.2)
+front_stands old new place word.Percent first all h = let s = first all h in (s.0, s.1, s.2)
+front_stands old new place word.Other first all h = let s = first all h in (s.0, s.1, s.2)
+
+-- a token that isn't the end takes some of the room
+pub takes_token : (old mid : Reader) (w : Word) → Advances old mid w → (w ≡ word.End → ⊥) → mid.limit - mid.taken < old.limit - old.taken
+takes_token old mid word.End a some = absurd (some refl)
+takes_token old mid (word.Number x) a some = a
+takes_token old mid word.Add a some = a
+takes_token old mid word.Del a some = a
+takes_token old mid word.Header a some = a
+takes_token old mid word.Cnf a some = a
+takes_token old mid word.Percent a some = a
+takes_token old mid word.Other a some = a
 
 -- a number other than 0 leaves the lists open
 pub open_number : (lists o : ℕ) (w : Word) (x : ℤ) → w ≡ word.Number x → (x ≡ pos 0 → ⊥) → open_after lists (suc o) w ≡ suc o

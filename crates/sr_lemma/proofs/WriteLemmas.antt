@@ -1,15 +1,16 @@
 -- What is written, piece after piece.
 use Rattle.std.proofs.Common.{◌≡◌, ◌∙◌, ℕ, zero, suc, ◌+◌, ◌*◌, ◌^◌, ◌/◌, ◌%◌, ◌<◌, ◌≤◌, refl, sym, ap, true, List, [], ◌∷◌, ◌++◌, length, take, map, get_or, ℤ, pos, negsuc, arith, append_assoc}
 use Rattle.std.specs.Prelude.{nat_abs, nat_lt, Result, Ok, Err, OnOk}
+use Rattle.std.specs.Fmt.{signed_decimal}
 use Rattle.std.proofs.lemmas.Bool.Decides.{nat_tests}
 use Rattle.std.proofs.lemmas.List.{take_more}
 use Rattle.std.proofs.Math.Nat.{pow-suc}
 use Rattle.std.proofs.Math.Seq.{take-append_seam}
 use Rattle.sr_base.specs.Literal.{Literal, number}
 use Rattle.sr_base.specs.declared.names.Form.{Form}
-use Rattle.sr_base.specs.declared.names.Form.TheVariants.{Binary}
+use Rattle.sr_base.specs.declared.names.Form.TheVariants.{Text, Binary}
 use Rattle.sr_model.specs.Writing as model
-use Rattle.sr_model.specs.Writing.{groups_for, flat}
+use Rattle.sr_model.specs.Writing.{groups_for, flat, spaced}
 use Rattle.sr_model.proofs.Soundness.{by_test}
 use Rattle.sr_scan.specs.Binary.{spelled_value, number_bytes}
 use Rattle.sr_lemma.specs.Written.{written_number, written_numbers, written_literals}
@@ -76,3 +77,8 @@ pairs_step form old out new maps i m within is before after =
     after ∙ ap (λ o. o ++ written_literals form (m.0 ∷ m.1 ∷ [])) before
     ∙ append_assoc old (written_literals form (flat (take i maps))) (written_literals form (m.0 ∷ m.1 ∷ []))
     ∙ ap (λ o. old ++ o) (sym (literals_written_append form (flat (take i maps)) (m.0 ∷ m.1 ∷ [])) ∙ ap (written_literals form) (sym all))
+
+-- in text, numbers with a space after each
+pub spaced_is : (xs : List ℤ) → written_numbers Text xs ≡ spaced xs
+spaced_is [] = refl
+spaced_is (x ∷ xs) = append_assoc (signed_decimal x) (32 ∷ []) (written_numbers Text xs) ∙ ap (λ l. signed_decimal x ++ 32 ∷ l) (spaced_is xs)

@@ -19,18 +19,8 @@ use Rattle.sr_wit.specs.declared.item.LsrItem.{LsrItem}
 use Rattle.sr_lemma.specs.Laws.{front_word}
 use Rattle.sr_lemma.specs.Left.{tokens_left}
 use Rattle.sr_lemma.specs.Reads.{GivesFront}
+use Rattle.sr_lemma.proofs.NumberLemmas.{front_stands}
 use Rattle.sr_lsr.specs.Reads.{StopsItem, GivesOf, GivesItemOf}
-
--- the token at the front, before what is left
-front_stands : (old new : Option Texts) (place : ℕ) (w : Word) → StandsFirst old new place w → (all : Texts) → old ≡ Some all → (rest : Texts) × (all ≡ front_word place w rest) × (new ≡ Some rest)
-front_stands old new place word.End first all h = let s = first all h in (finished place, s.0, s.1)
-front_stands old new place (word.Number x) first all h = let s = first all h in (s.0, s.1, s.2)
-front_stands old new place word.Add first all h = let s = first all h in (s.0, s.1, s.2)
-front_stands old new place word.Del first all h = let s = first all h in (s.0, s.1, s.2)
-front_stands old new place word.Header first all h = let s = first all h in (s.0, s.1, s.2)
-front_stands old new place word.Cnf first all h = let s = first all h in (s.0, s.1, s.2)
-front_stands old new place word.Percent first all h = let s = first all h in (s.0, s.1, s.2)
-front_stands old new place word.Other first all h = let s = first all h in (s.0, s.1, s.2)
 
 -- a reading hands on what stops the tokens
 pub record HandsOn (read : Texts → ItemRead) : Type 0 where

@@ -1,6 +1,6 @@
 -- What a token does to a deletion.
 use Rattle.std.proofs.Common.{◌≡◌, ◌∙◌, ℕ, ℤ, pos, negsuc, zero, suc, ◌<◌, ◌≤◌, refl, sym, ap, subst, List, [], ◌∷◌, ◌++◌, true, false, Option, Some, Ok, Err, arith}
-use Rattle.std.specs.Prelude.{nat_abs, nat_le, ◌<ℤ◌}
+use Rattle.std.specs.Prelude.{nat_abs, nat_le}
 use Rattle.std.proofs.lemmas.Int.{ints}
 use Rattle.std.proofs.lemmas.Bool.Decides.{nat_tests}
 use Rattle.sr_base.specs.declared.names.Form.{Form}

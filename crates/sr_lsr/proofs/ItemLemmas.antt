@@ -10,7 +10,7 @@ use Rattle.sr_model.specs.declared.tokens.Word.{Word}
 use Rattle.sr_model.specs.declared.tokens.Word.TheVariants as word
 use Rattle.sr_model.specs.declared.tokens.Token.{Token}
 use Rattle.sr_model.specs.Texts.{Texts, next}
-use Rattle.sr_model.specs.Lsr.{none, misspells, passes, numbers_after, with_literals, dropped_after, by_kind, kind_at, by_id, item_at}
+use Rattle.sr_model.specs.Lsr.{none, misspells, passes, numbers_after, with_literals, dropped_after, kind_at, by_id, item_at}
 use Rattle.sr_model.specs.LsrBinary.{by_step_number, binary_step_at, binary_item_at}
 use Rattle.sr_wit.specs.declared.fault.InFault.{InFault}
 use Rattle.sr_wit.specs.declared.fault.InFault.TheVariants.{Text, Limit, Source, NoMemory}

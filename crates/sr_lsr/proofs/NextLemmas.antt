@@ -1,5 +1,5 @@
 -- The item at the front, by its first token.
-use Rattle.std.proofs.Common.{◌≡◌, ◌≢◌, ℕ, ◌-◌, ◌<◌, sym, subst, refl, Option, Some, None, Ok, Err, arith}
+use Rattle.std.proofs.Common.{◌≡◌, ◌≢◌, ◌-◌, ◌<◌, sym, subst, refl, Option, Some, None, Ok, Err, arith}
 use Rattle.std.specs.Prelude.{Result, IfOk, OnSome}
 use Rattle.sr_base.specs.Limits.{LimitValues}
 use Rattle.sr_base.specs.declared.names.Form.{Form}
@@ -20,6 +20,7 @@ use Rattle.sr_wit.specs.declared.item.LsrItem.{LsrItem}
 use Rattle.sr_lemma.specs.Laws.{front_word}
 use Rattle.sr_lemma.specs.Left.{tokens_left}
 use Rattle.sr_lemma.specs.Reads.{GivesFront}
+use Rattle.sr_lemma.proofs.NumberLemmas.{takes_token}
 use Rattle.sr_lsr.specs.Reads.{GivesItemBehind, GivesItem, TakesSome}
 use Rattle.sr_lsr.proofs.BeginLemmas.{HandsOn, unbegun, begun_or_none}
 
@@ -40,16 +41,6 @@ item_begun_in f k lim t old mid new before between after result e first given =
     (subst (λ (x : Form). GivesItemBehind x lim t (tokens_left x 2 (open_after 2 0 t.word) mid between) (tokens_left x 2 0 new after) result) (sym e) given)
 
 -- an item takes its first token
-takes_token : (old mid : Reader) (w : Word) → Advances old mid w → w ≢ word.End → TakesSome old mid
-takes_token old mid word.End a ne = absurd (ne refl)
-takes_token old mid (word.Number x) a ne = a
-takes_token old mid word.Add a ne = a
-takes_token old mid word.Del a ne = a
-takes_token old mid word.Header a ne = a
-takes_token old mid word.Cnf a ne = a
-takes_token old mid word.Percent a ne = a
-takes_token old mid word.Other a ne = a
-
 pub item_takes : (old mid new : Reader) (w : Word) (result : Result (Option LsrItem) InFault) → Advances old mid w → IsSameReader mid new → IfOk result (λ o. OnSome o (w ≢ word.End)) → IfOk result (λ o. OnSome o (TakesSome old new))
 item_takes old mid new w (Ok (Some x)) a s ne =
     let first : mid.limit - mid.taken < old.limit - old.taken = takes_token old mid w a ne in

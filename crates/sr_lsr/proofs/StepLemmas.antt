@@ -13,7 +13,7 @@ use Rattle.sr_model.specs.Binary.{open_after}
 use Rattle.sr_model.specs.Witnesses.{fault_of_literals, clause_of_literals, witness_of_literals}
 use Rattle.sr_model.specs.Meeting as meeting
 use Rattle.sr_model.specs.Judging.{Item, stepped}
-use Rattle.sr_model.specs.Lsr.{NumbersRead, ItemRead, numbers, item, misspells, judged_step, numbers_after, prefix_of, groups_of, step_of, with_hints, with_literals}
+use Rattle.sr_model.specs.Lsr.{NumbersRead, numbers, item, misspells, judged_step, numbers_after, groups_of, step_of, with_hints, with_literals}
 use Rattle.sr_wit.specs.declared.fault.InFault.{InFault}
 use Rattle.sr_wit.specs.declared.fault.InFault.TheVariants.{Text, Limit, Source, NoMemory}
 use Rattle.sr_wit.specs.declared.item.LsrItem.TheVariants.{Step}

@@ -2,14 +2,14 @@
 use Rattle.std.proofs.Common.{◌≡◌, ◌∙◌, ℕ, ℤ, pos, ◌+◌, ◌<◌, refl, sym, ap, List, [], ◌∷◌, ◌++◌, length, take, get_or, map, append_assoc}
 use Rattle.std.specs.Prelude.{codes, decimal, neg_ℤ}
 use Rattle.std.specs.Fmt.{signed_decimal}
-use Rattle.std.proofs.lemmas.List.{append-nil, take_more, map_push}
+use Rattle.std.proofs.lemmas.List.{take_more}
 use Rattle.sr_base.specs.declared.names.Form.{Form}
 use Rattle.sr_base.specs.declared.names.Form.TheVariants.{Text, Binary}
 use Rattle.sr_model.specs.Meeting.{Group, Step}
 use Rattle.sr_model.specs.Judging.{stepped, dropped}
-use Rattle.sr_model.specs.Writing.{spaced, literals_written, groups_written, hints_written, step_numbers, written_item}
-use Rattle.sr_lemma.specs.Written.{written_number, written_numbers, written_end}
-use Rattle.sr_lemma.proofs.WriteLemmas.{numbers_append}
+use Rattle.sr_model.specs.Writing.{spaced, groups_written, step_numbers, written_item}
+use Rattle.sr_lemma.specs.Written.{written_numbers, written_end}
+use Rattle.sr_lemma.proofs.WriteLemmas.{numbers_append, spaced_is}
 use Rattle.sr_lsr.specs.Written.{step_start, drop_start}
 
 groups_append : (xs ys : List Group) → groups_written (xs ++ ys) ≡ groups_written xs ++ groups_written ys
@@ -26,11 +26,6 @@ groups_step form old out new groups i g within is before after =
     after ∙ ap (λ o. o ++ written_numbers form (groups_written (g ∷ []))) before
     ∙ append_assoc old (written_numbers form (groups_written (take i groups))) (written_numbers form (groups_written (g ∷ [])))
     ∙ ap (λ o. old ++ o) (sym (numbers_append form (groups_written (take i groups)) (groups_written (g ∷ []))) ∙ ap (written_numbers form) (sym numbers))
-
--- numbers with a space after each
-spaced_is : (xs : List ℤ) → written_numbers Text xs ≡ spaced xs
-spaced_is [] = refl
-spaced_is (x ∷ xs) = append_assoc (signed_decimal x) (32 ∷ []) (written_numbers Text xs) ∙ ap (λ l. signed_decimal x ++ 32 ∷ l) (spaced_is xs)
 
 -- an item of its parts
 pub step_whole : (f : Form) (s : Step) → (step_start f ++ written_numbers f (pos s.id ∷ step_numbers s)) ++ written_end f ≡ written_item f (stepped s)

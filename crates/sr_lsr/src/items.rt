@@ -204,7 +204,8 @@ fn binary_item<D: Desk>(
 }
 
 /// The next item of a proof by hints; none where only white space and comments are left (text) or nothing
-/// (binary). A step's witness has the first literal of its clause as its pivot, and [`item_bytes`] takes the item.
+/// (binary). A step's witness has the first literal of its clause as its pivot, and [`item_bytes`] takes
+/// the item.
 ///
 /// [`item_bytes`]: crate::item_bytes
 ///

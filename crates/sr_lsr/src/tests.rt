@@ -10,16 +10,30 @@ use sr_wit::{InFault, LsrItem};
 use std::alloc::Global;
 use std::test::Fail;
 
-/// Five lines: deletions, a step with a witness and groups, and steps by their prefix alone.
-const TEXT: &str =
-    "12 d 2 0\n13 -1 -1 2 -1 3 4 4 3 0 -4 3 -5 9 -6 10 -7 11 -8 12 -9 5 -10 6 -11 7 -12 8 0\n13 d 3 5 6 7 8 0\n14 5 0 13 1 4 9 10 0\n14 d 9 10 0\n15 0 13 1 4 14 11 12 0\n";
+/// Six lines: deletions, a step with a witness and groups, and steps by their prefix alone.
+const TEXT: &str = "12 d 2 0\n\
+    13 -1 -1 2 -1 3 4 4 3 0 -4 3 -5 9 -6 10 -7 11 -8 12 -9 5 -10 6 -11 7 -12 8 0\n\
+    13 d 3 5 6 7 8 0\n\
+    14 5 0 13 1 4 9 10 0\n\
+    14 d 9 10 0\n\
+    15 0 13 1 4 14 11 12 0\n";
 
 /// The same items where deletions have no number.
-const UNNUMBERED: &str =
-    "0 d 2 0\n13 -1 -1 2 -1 3 4 4 3 0 -4 3 -5 9 -6 10 -7 11 -8 12 -9 5 -10 6 -11 7 -12 8 0\n0 d 3 5 6 7 8 0\n14 5 0 13 1 4 9 10 0\n0 d 9 10 0\n15 0 13 1 4 14 11 12 0\n";
+const UNNUMBERED: &str = "0 d 2 0\n\
+    13 -1 -1 2 -1 3 4 4 3 0 -4 3 -5 9 -6 10 -7 11 -8 12 -9 5 -10 6 -11 7 -12 8 0\n\
+    0 d 3 5 6 7 8 0\n\
+    14 5 0 13 1 4 9 10 0\n\
+    0 d 9 10 0\n\
+    15 0 13 1 4 14 11 12 0\n";
 
-const BINARY: &[u8] =
-    b"d\x04\0a\x1a\x03\x03\x04\x03\x06\x08\x08\x06\0\x09\x06\x0b\x12\x0d\x14\x0f\x16\x11\x18\x13\x0a\x15\x0c\x17\x0e\x19\x10\0d\x06\x0a\x0c\x0e\x10\0a\x1c\x0a\0\x1a\x02\x08\x12\x14\0d\x12\x14\0a\x1e\0\x1a\x02\x08\x1c\x16\x18\0";
+/// And these in binary.
+const BINARY: &[u8] = b"d\x04\0\
+    a\x1a\x03\x03\x04\x03\x06\x08\x08\x06\0\x09\x06\x0b\x12\x0d\x14\x0f\x16\
+    \x11\x18\x13\x0a\x15\x0c\x17\x0e\x19\x10\0\
+    d\x06\x0a\x0c\x0e\x10\0\
+    a\x1c\x0a\0\x1a\x02\x08\x12\x14\0\
+    d\x12\x14\0\
+    a\x1e\0\x1a\x02\x08\x1c\x16\x18\0";
 
 fn add(alloc: Global, form: Form, item: &LsrItem, out: &mut ByteList) -> Result<(), InFault>
     requires { IsSmallItem (item_of item.now) }
