@@ -3,3 +3,4 @@ pub mod PartLemmas
 pub mod WitnessLemmas
 pub mod KeptLemmas
 pub mod ReduceLemmas
+pub mod SlotLemmas

@@ -1,5 +1,5 @@
 -- The parts of a substitution in the order of their variables, for binary search.
-use Rattle.std.specs.Prelude.{ℕ, ◌≡◌, ◌≢◌, List, All}
+use Rattle.std.specs.Prelude.{ℕ, ◌*◌, ◌/◌, ◌%◌, ◌^◌, ◌<◌, ◌≤◌, ◌≡◌, ◌≢◌, List, All, length, slice_index_or}
 use Rattle.std.specs.List.Sorted.{IsNonDecreasingBy}
 use Rattle.sr_base.specs.Literal.{Literal, plus}
 use Rattle.sr_model.specs.Substitution.{Substitution, Witness, substitution, image_of_variable}
@@ -20,3 +20,12 @@ witness_with pivot assigned maps = record { pivot = pivot; assigned = assigned; 
 pub record HoldsSubst (w : Witness) (table : List (ℕ × Image)) : Type 0 where
   pub kept : IsKept w
   pub images : IsTableOf (substitution w) table
+
+-- where a variable is looked for first
+abbrev pub slot_of : ℕ → ℕ → ℕ
+slot_of v shift = v * 2654435769 % 4294967296 / 2 ^ shift
+
+-- each slot has the place of a part, counted from 1, and of a variable whose slot has none there is no part
+pub record AreSlots (parts : List (ℕ × Image)) (slots : List ℕ) (shift : ℕ) : Type 0 where
+  pub known : (i : ℕ) → slice_index_or slots i 0 ≤ length parts
+  pub free : (v : ℕ) → slot_of v shift < length slots → slice_index_or slots (slot_of v shift) 0 ≡ 0 → All (λ p. p.0 ≢ v) parts

@@ -7,6 +7,7 @@ mod fault;
 mod formula;
 mod group;
 mod item;
+mod part_table;
 mod parts;
 mod reduce;
 mod step;

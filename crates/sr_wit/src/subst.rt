@@ -1,5 +1,5 @@
 // Substitutions, as witnesses write them (Buss and Thapen 2019). Beside what is written stands a table of
-// the images in the order of their variables, where one is found by binary search.
+// the images by their variables.
 ghost use Rattle.std.specs.Prelude.{◌≡◌, None, [], IfOk, IfErr, OnOk, OnErr};
 ghost use Rattle.sr_model.specs.Substitution.{substitution, image, reduction};
 ghost use Rattle.sr_model.specs.Witnesses.{parts_of, twice_of, witness_by};
@@ -7,9 +7,10 @@ ghost use Rattle.sr_wit.specs.Reductions.{reduced_of, HasNoneBeside};
 ghost use Rattle.sr_wit.specs.Kept.{IsKept};
 ghost use Rattle.sr_wit.specs.Faults.{TellsTwice};
 
+use crate::part_table::PartTable;
 use crate::parts::{
-    Part, all_maps, find, first_maps, first_twice, is_positive, made_true, opposite,
-    other_literals, rises, written_parts,
+    all_maps, first_maps, first_twice, is_positive, made_true, opposite, other_literals, rises,
+    written_parts,
 };
 use crate::reduce::{Reduced, collect_images, keep_distinct};
 use sr_base::{Lit, LitList, NoMemory};
@@ -45,7 +46,7 @@ pub struct Subst {
     pivot: Lit,
     assigned: Vec<Lit>,
     maps: Vec<(Lit, Lit)>,
-    table: Vec<Part>,
+    table: PartTable,
 }
 
 impl Model for Subst {
@@ -56,7 +57,7 @@ impl Model for Subst {
 
     ghost view = { λ s. witness_with s.pivot s.assigned.items s.maps.items };
 
-    ghost invariant = { λ s. HoldsSubst (witness_with s.pivot s.assigned.items s.maps.items) s.table.items };
+    ghost invariant = { λ s. HoldsSubst (witness_with s.pivot s.assigned.items s.maps.items) s.table };
 }
 
 impl Subst {
@@ -86,7 +87,7 @@ impl Subst {
                 pivot,
                 assigned: kept,
                 maps,
-                table,
+                table: PartTable::new(alloc, table)?,
             });
         }
         let parts = written_parts(alloc, pivot, assigned, maps)?;
@@ -99,7 +100,7 @@ impl Subst {
             pivot,
             assigned,
             maps,
-            table,
+            table: PartTable::new(alloc, table)?,
         })
     }
 
@@ -108,14 +109,14 @@ impl Subst {
         ensures { IfOk result (λ s. s ≡ witness_by pivot [] []) }
     {
         let mut table = Vec::new(alloc);
-        if table.push(made_true(pivot)).is_err() {
+        let Ok(()) = table.push(made_true(pivot)) else {
             return Err(NoMemory);
-        }
+        };
         Ok(Subst {
             pivot,
             assigned: Vec::new(alloc),
             maps: Vec::new(alloc),
-            table,
+            table: PartTable::new(alloc, table)?,
         })
     }
 
@@ -123,7 +124,7 @@ impl Subst {
     pub fn image(&self, l: Lit) -> Image
         ensures { result ≡ image (substitution self.now) l }
     {
-        match find(&self.table, l.var()) {
+        match self.table.find(l.var()) {
             None => Image::To(l),
             Some(image) => {
                 if is_positive(l) {
@@ -165,7 +166,7 @@ impl Subst {
         ensures none_beside { IfOk result (λ r. HasNoneBeside r out.new) }
         ensures err { OnErr result (out.new ≡ []) }
     {
-        let alloc = *self.table.allocator();
+        let alloc = self.table.alloc();
         let images = collect_images(self, lits, out);
         let reduced = match images {
             Ok(Reduced::Left) => keep_distinct(alloc, out),

@@ -27,23 +27,23 @@ no_variable None h = refl
 no_variable (Some v) h = absurd (h v refl)
 
 -- where the variables rise, they differ
-differing : (c : goal.In_ok-maps) → AllDiffer (map (λ q. q.0) (parts_of c.args.pivot c.args.assigned.now c.args.maps.now))
+differing : (c : goal.In_ok-new) → AllDiffer (map (λ q. q.0) (parts_of c.args.pivot c.args.assigned.now c.args.maps.now))
 differing c =
     let rising : AllAdjacentBelow (λ p q. p.0 < q.0) c.sort_unstable_by_key.new.self.items (length c.sort_unstable_by_key.new.self.items) =
     rw c.deref.ensures.value at (c.rises.ensures.0 c.if-rises.true) in
     subst (λ ps. AllDiffer (map (λ q. q.0) ps)) c.in_ok-table.ensures
     (differing-sorted c.in_ok-table.table.items c.sort_unstable_by_key.new.self.items c.sort_unstable_by_key.ensures.permutation rising)
 
-whole : (c : goal.In_ok-maps) → witness_with c.args.pivot c.in-Ok.kept.items c.in_ok-maps.maps.items ≡ witness_by c.args.pivot c.args.assigned.now c.args.maps.now
+whole : (c : goal.In_ok-new) → witness_with c.args.pivot c.in-Ok.kept.items c.in_ok-maps.maps.items ≡ witness_by c.args.pivot c.args.assigned.now c.args.maps.now
 whole c =
     rw (c.in-Ok.ensures.items, c.in_ok-maps.ensures) (sym (witness_by-differing c.args.pivot c.args.assigned.now c.args.maps.now (differing c)))
 
 pub invariant_of-result : goal.invariant_of-result
 invariant_of-result c =
     let sorted = IsNonDecreasingBy-from_sort_by_key (λ p. p.0) c.sort_unstable_by_key.new.self.items c.sort_unstable_by_key.ensures.sorted (λ a r q k. search rules) in
-    table c.args.pivot c.args.assigned.now c.args.maps.now c.in_ok-table.table.items c.sort_unstable_by_key.new.self.items c.in_ok-table.ensures
+    rw c.in_ok-new.ensures (table c.args.pivot c.args.assigned.now c.args.maps.now c.in_ok-table.table.items c.sort_unstable_by_key.new.self.items c.in_ok-table.ensures
     c.sort_unstable_by_key.ensures.permutation sorted (twice_of-differing (parts_of c.args.pivot c.args.assigned.now c.args.maps.now) (differing c))
-    (witness_with c.args.pivot c.in-Ok.kept.items c.in_ok-maps.maps.items) (whole c)
+    (witness_with c.args.pivot c.in-Ok.kept.items c.in_ok-maps.maps.items) (whole c))
 
 pub returns-then-rises-clause-ok : goal.returns-then-rises-clause-ok
 returns-then-rises-clause-ok c = whole c
@@ -56,6 +56,6 @@ invariant_of-result-2 c =
     let sorted = IsNonDecreasingBy-from_sort_by_key (λ p. p.0) c.sort_unstable_by_key.new.self.items c.sort_unstable_by_key.ensures.sorted (λ a r q k. search rules) in
     let once : twice_of (parts_of c.args.pivot c.args.assigned.now c.args.maps.now) ≡ None =
     sym (c.in_ok-var.ensures ∙ ap twice_of (c.deref-2.ensures.value ∙ c.in_ok-parts.ensures)) ∙ no_variable c.in_ok-var.field-0 c.in_default-2.not-Some in
-    table c.args.pivot c.args.assigned.now c.args.maps.now c.in_ok-table.table.items c.sort_unstable_by_key.new.self.items c.in_ok-table.ensures
+    rw c.in_ok-new-2.ensures (table c.args.pivot c.args.assigned.now c.args.maps.now c.in_ok-table.table.items c.sort_unstable_by_key.new.self.items c.in_ok-table.ensures
     c.sort_unstable_by_key.ensures.permutation sorted once
-    (witness_with c.args.pivot c.in_ok-assigned.assigned.items c.in_ok-maps-2.maps.items) (rw (c.in_ok-assigned.ensures, c.in_ok-maps-2.ensures) refl)
+    (witness_with c.args.pivot c.in_ok-assigned.assigned.items c.in_ok-maps-2.maps.items) (rw (c.in_ok-assigned.ensures, c.in_ok-maps-2.ensures) refl))

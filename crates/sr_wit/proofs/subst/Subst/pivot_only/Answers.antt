@@ -1,0 +1,11 @@
+use Rattle.std.proofs.Common.{rules, [], ◌∷◌}
+use Rattle.sr_base.specs.Literal.{Literal}
+use Rattle.sr_model.specs.Substitution.{made_true}
+use Rattle.sr_wit.specs.Tables.{HoldsSubst, witness_with}
+use Rattle.sr_wit.proofs.subst.Subst.pivot_only.Goals as goal
+
+alone : (p : Literal) → HoldsSubst (witness_with p [] []) (made_true p ∷ [])
+alone p = search rules
+
+pub invariant_of-result : goal.invariant_of-result
+invariant_of-result c = rw (c.in_ok-new.ensures, c.new.ensures.items, c.new-2.ensures.items, c.in-Ok.ensures.items, c.new-table.ensures.items, c.made_true.ensures) (alone c.args.pivot)
