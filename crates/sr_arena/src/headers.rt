@@ -1,4 +1,5 @@
-// Headers of clauses.
+// Headers of clauses, and the place that marks a freed one.
+
 /// The place that no clause can have. A freed clause has it.
 pub const NOWHERE: u32 = 4_294_967_295;
 

@@ -20,3 +20,4 @@ pub use counting::Steps;
 pub use memory::ClauseMem;
 pub use moves::CrefMap;
 pub use references::{Cref, CrefList, Side};
+pub use sr_base::AddStop;

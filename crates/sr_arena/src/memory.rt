@@ -54,7 +54,8 @@ impl ClauseMem {
 
     /// Adds a clause, with no links and no mark.
     ///
-    /// Where memory is wanted the literals are copied into the one region that all clauses share.
+    /// Fewer than 2^31 cells can be used at once: where the clauses that were freed leave no room for another, that is want
+    /// of memory too, and a compaction helps.
     pub fn add(&mut self, lits: &[Lit]) -> Result<Cref, AddStop>
         ensures at { IfOk result (λ at. at ≡ length self.old.cells) }
         ensures ok { OnOk result (self.new ≡ with_clause self.old lits.now) }

@@ -1,5 +1,5 @@
-// Compaction in place: the held clauses slide down in order, each behind those before it, so no cell is read after it was
-// written.
+// Compaction in place: the held clauses slide down in order, each behind those before it, so a clause is read before another
+// is written over it.
 ghost use Rattle.std.specs.Prelude.{◌≡◌, ◌+◌, ◌*◌, ◌-◌, ◌/◌, ◌<◌, ◌≤◌, ◌∷◌, length, slice_set};
 ghost use Rattle.std.specs.List.{copy_within};
 ghost use Rattle.sr_arena.specs.Cells.{gone, weights};
