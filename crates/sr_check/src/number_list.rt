@@ -1,4 +1,4 @@
-// A list of clause numbers.
+// A list of clause numbers, from which those of clauses that are gone can be dropped.
 ghost use Rattle.std.specs.Prelude.{◌≡◌, [], ◌∷◌, ◌++◌, filter, is_some, OnOk, OnErr};
 ghost use Rattle.sr_model.specs.Chain.{clause_of};
 
@@ -7,7 +7,7 @@ use sr_base::NoMemory;
 use std::alloc::Global;
 use std::marker::Model;
 
-/// A list of clause numbers.
+/// A list of clause numbers, from which those of clauses that are gone can be dropped.
 #[derive(Drop)]
 pub struct NumberList {
     items: Vec<u32>,
