@@ -9,4 +9,4 @@ pub invariant_of-result : goal.invariant_of-result
 invariant_of-result c =
     let scratch : Scratch = record { alloc = c.args.alloc; marks = c.add_clauses.new.marks; index = c.in-Ok-new.index; lists = c.new-4.result; numbers = c.in-Ok-new-2.numbers; left = c.new-5.result } in
     let ready : IsReady scratch = (c.in-Ok-add_clauses.ensures.lits ∙ ap (λ (m : Marking). m.lits) c.new-marks.ensures, c.in-Ok-new.ensures) in
-    keeps_new c.cells-most.result c.args.formula.clauses c.add_clauses.new.live c.count.result scratch c.in-Ok-add_clauses.ensures.live c.count.ensures.value ready c.new-4.ensures c.in-Ok-add_clauses.ensures.room (omega (arith, c.cells.ensures, c.if-cells-most.false)) c.cells-most.ensures.bound
+    keeps_new c.cells-most.result c.args.formula.clauses c.add_clauses.new.live c.count.result scratch c.in-Ok-add_clauses.ensures.live c.count.ensures.value ready c.new-4.ensures.built c.in-Ok-add_clauses.ensures.room (omega (arith, c.cells.ensures, c.if-cells-most.false)) c.cells-most.ensures.bound
