@@ -1,15 +1,16 @@
 -- Lists of clause numbers by literal. A head tells the place of a literal's list; places are counted from 1, and a literal
 -- of the place 0 has no list yet.
-use Rattle.std.specs.Prelude.{ℕ, zero, suc, ◌≤◌, ◌≡◌, ◌⊎◌, Bool, true, cond, List, [], ◌∷◌, ◌++◌, length, slice_index_or}
+use Rattle.std.specs.Prelude.{ℕ, zero, suc, ◌≤◌, ◌≡◌, ◌⊎◌, Bool, true, cond, List, [], ◌∷◌, ◌++◌, length, slice_index_or, ◌+◌, min}
 use Rattle.sr_base.specs.Literal.{Literal, literal_code, same}
 use Rattle.sr_model.specs.Assignment.{holds_number}
 use Rattle.sr_model.specs.Chain.{Numbered}
 
--- whether the lists are built, the head of each code, and the lists
+-- whether the lists are built, the head of each code, the lists, and how many literals were entered
 pub record Occurring : Type 0 where
   pub built : Bool
   pub heads : List ℕ
   pub lists : List (List ℕ)
+  pub entered : ℕ
 
 abbrev pub head_at : List ℕ → ℕ → ℕ
 head_at heads code = slice_index_or heads code 0
@@ -61,3 +62,7 @@ pub record AreListed (o : Occurring) (live : Numbered) : Type 0 where
 -- the lists have the clauses, if they are built
 abbrev pub KeepsListed : Occurring → Numbered → Type 0
 KeepsListed o live = o.built ≡ true → AreUnder (under o) live
+
+-- how many literals were entered, up to the greatest number of 64 bits
+abbrev pub counted : ℕ → ℕ → ℕ
+counted entered more = min (entered + more) 18446744073709551615

@@ -1,11 +1,11 @@
 // Lists of clause numbers by literal, by which the clauses are found that a witness touches. They are built when they are
 // first needed. The number of a clause that is dropped stays in its lists until they are next read, so that a deletion
 // touches none; where too many may have stayed, the lists are forgotten.
-ghost use Rattle.std.specs.Prelude.{◌≡◌, ℕ, suc, ◌<◌, true, false, [], ◌∷◌, ◌++◌, length, slice_index_or, slice_set, OnOk, OnErr, IfOk};
+ghost use Rattle.std.specs.Prelude.{◌≡◌, ℕ, suc, ◌<◌, ◌≤◌, true, false, [], ◌∷◌, ◌++◌, length, slice_index_or, slice_set, OnOk, OnErr, IfOk};
 ghost use Rattle.sr_base.specs.Literal.{literal_code};
 ghost use Rattle.sr_check.specs.Numbers.{KeepsHeld};
 ghost use Rattle.sr_check.specs.Candidates.{HoldsWith};
-ghost use Rattle.sr_check.specs.Occurring.{head_at, numbers_under, under, AreLinked, SameNumbers, Enters, KeepsNumbers, IsUnder, AreListed, KeepsListed};
+ghost use Rattle.sr_check.specs.Occurring.{head_at, numbers_under, under, AreLinked, SameNumbers, Enters, KeepsNumbers, IsUnder, counted, AreListed, KeepsListed};
 
 use crate::live::LiveClauses;
 use crate::number_list::NumberList;
@@ -25,13 +25,11 @@ pub struct Occurrences {
 }
 
 impl Model for Occurrences {
-    ghost use Rattle.sr_check.specs.Numbers.{KeepsHeld};
-    ghost use Rattle.sr_check.specs.Candidates.{HoldsWith};
     ghost use Rattle.sr_check.specs.Occurring.{Occurring, AreLinked};
 
     ghost Value = { Occurring };
 
-    ghost view = { λ o. record { built = o.built; heads = o.heads.items; lists = o.lists.items } };
+    ghost view = { λ o. record { built = o.built; heads = o.heads.items; lists = o.lists.items; entered = o.entered } };
 
     ghost invariant = { λ o. AreLinked o.heads.items o.lists.items };
 }
@@ -39,7 +37,8 @@ impl Model for Occurrences {
 impl Occurrences {
     /// Lists that aren't built.
     pub fn new(alloc: Global) -> Occurrences
-        ensures { result.built ≡ false }
+        ensures built { result.built ≡ false }
+        ensures entered { result.entered ≡ 0 }
     {
         Occurrences {
             alloc,
@@ -85,6 +84,7 @@ impl Occurrences {
         ensures built { self.new.built ≡ self.old.built }
         ensures kept { KeepsNumbers (under self.old) (under self.new) }
         ensures ok { OnOk result (self.old.built ≡ true → IsUnder (under self.new) number lits.now) }
+        ensures entered { self.old.built ≡ true → self.new.entered ≡ counted self.old.entered (length lits.now) }
     {
         if self.built {
             self.entered = self.entered.saturating_add(lits.len() as u64);
@@ -95,7 +95,8 @@ impl Occurrences {
 
     /// Forgets the lists, if more literals than this were entered.
     pub fn limit(&mut self, most: u64)
-        ensures { self.new.built ≡ true → self.new ≡ self.old }
+        ensures kept { self.new.built ≡ true → self.new ≡ self.old }
+        ensures few { self.new.entered ≤ most }
     {
         if self.entered > most {
             *self = Occurrences::new(self.alloc);

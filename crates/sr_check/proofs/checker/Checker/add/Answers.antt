@@ -42,5 +42,5 @@ invariant_of-self-2 c =
     let fits : cells_of (clauses c.self.inside.live.clauses) + clause_cells c.args.lits.now ≤ c.self.inside.live.most = search rules in
     let pushed : KeepsListed c.enter.new.self (c.self.inside.live.clauses ++ (c.args.id, c.args.lits.now) ∷ []) =
     listed_push c.self.inside.scratch.lists c.enter.new.self c.self.inside.live.clauses c.args.id c.args.lits.now c.in_ok-enter.ensures.built c.in_ok-enter.ensures.kept c.in_ok-enter.ensures.ok c.self.invariant.lists in
-    let lists : KeepsListed c.limit.new.self (c.self.inside.live.clauses ++ (c.args.id, c.args.lits.now) ∷ []) = listed_limit c.enter.new.self c.limit.new.self (c.self.inside.live.clauses ++ (c.args.id, c.args.lits.now) ∷ []) c.limit.ensures pushed in
+    let lists : KeepsListed c.limit.new.self (c.self.inside.live.clauses ++ (c.args.id, c.args.lits.now) ∷ []) = listed_limit c.enter.new.self c.limit.new.self (c.self.inside.live.clauses ++ (c.args.id, c.args.lits.now) ∷ []) c.limit.ensures.kept pushed in
     rw c.in_ok-add_last.ensures.ok (keeps_push c.self.inside.live.most c.self.inside.live.clauses c.self.inside.live.last c.args.id c.args.lits.now c.self.inside.scratch after c.self.invariant (omega (arith, last, c.requires)) ready c.in_ok-cover_all.ensures.room c.in_ok-cover_all.ensures.ok lists fits)

@@ -13,4 +13,4 @@ invariant_of-result c =
     let most : c.add_clauses.new.live.most ≡ c.cells-2.result = ap (λ (s : Stored). s.most) c.in-Ok-add_clauses.ensures.live ∙ ap (λ (s : Stored). s.most) c.in-Ok.ensures ∙ sym c.cells-2.ensures.value in
     keeps_new c.add_clauses.new.live.most c.args.formula.clauses c.add_clauses.new.live.clauses c.add_clauses.new.live.last scratch
     (ap (λ (s : Stored). s.clauses) c.in-Ok-add_clauses.ensures.live) (ap (λ (s : Stored). s.last) c.in-Ok-add_clauses.ensures.live)
-    ready c.new-4.ensures c.in-Ok-add_clauses.ensures.room (omega (arith, most, c.cells.ensures, c.if-cells.false)) (omega (arith, most, c.cells-2.ensures.bound))
+    ready c.new-4.ensures.built c.in-Ok-add_clauses.ensures.room (omega (arith, most, c.cells.ensures, c.if-cells.false)) (omega (arith, most, c.cells-2.ensures.bound))

@@ -15,13 +15,13 @@ kept heads ls i live new h e u = rw e (kept_listed heads ls i live h u)
 
 pub returns-then-head-eq0-clause-ok : goal.returns-then-head-eq0-clause-ok
 returns-then-head-eq0-clause-ok c =
-    let listed : AreListed (record { built = c.self.inside.built; heads = c.self.inside.heads.items; lists = c.self.inside.lists.items }) c.args.live.now = subst (λ (o : Occurring). AreListed o c.args.live.now) (sym c.self.view_is) c.requires in
+    let listed : AreListed (record { built = c.self.inside.built; heads = c.self.inside.heads.items; lists = c.self.inside.lists.items; entered = c.self.inside.entered }) c.args.live.now = subst (λ (o : Occurring). AreListed o c.args.live.now) (sym c.self.view_is) c.requires in
     let head : c.head_of-head.result ≡ head_at c.self.inside.heads.items (literal_code c.args.l) = c.head_of-head.ensures ∙ ap (λ x. head_at x (literal_code c.args.l)) c.deref.ensures.value in
     none_gathered c.self.inside.heads.items c.self.inside.lists.items c.args.l c.args.numbers.now c.args.live.now (sym head ∙ c.if-head-eq0.true) listed.under
 
 pub returns-in_err-add_all-clause-listed : goal.returns-in_err-add_all-clause-listed
 returns-in_err-add_all-clause-listed c =
-    let listed : AreListed (record { built = c.self.inside.built; heads = c.self.inside.heads.items; lists = c.self.inside.lists.items }) c.args.live.now = subst (λ (o : Occurring). AreListed o c.args.live.now) (sym c.self.view_is) c.requires in
+    let listed : AreListed (record { built = c.self.inside.built; heads = c.self.inside.heads.items; lists = c.self.inside.lists.items; entered = c.self.inside.entered }) c.args.live.now = subst (λ (o : Occurring). AreListed o c.args.live.now) (sym c.self.view_is) c.requires in
     let head : c.head_of-head.result ≡ head_at c.self.inside.heads.items (literal_code c.args.l) = c.head_of-head.ensures ∙ ap (λ x. head_at x (literal_code c.args.l)) c.deref.ensures.value in
     let within : c.head_of-head.result - 1 < length c.self.inside.lists.items = omega (arith, head, c.self.invariant.known (literal_code c.args.l), c.if-head-eq0.false) in
     let is : c.keep_live.new.self ≡ live_only c.args.live.now (get_or c.self.inside.lists.items (c.head_of-head.result - 1) []) = found c.self.inside.lists.items (c.head_of-head.result - 1) c.args.live.now c.index_mut-list.result.now c.keep_live.new.self within c.index_mut-list.ensures.value c.keep_live.ensures in
@@ -29,7 +29,7 @@ returns-in_err-add_all-clause-listed c =
 
 pub returns-clause-listed : goal.returns-clause-listed
 returns-clause-listed c =
-    let listed : AreListed (record { built = c.self.inside.built; heads = c.self.inside.heads.items; lists = c.self.inside.lists.items }) c.args.live.now = subst (λ (o : Occurring). AreListed o c.args.live.now) (sym c.self.view_is) c.requires in
+    let listed : AreListed (record { built = c.self.inside.built; heads = c.self.inside.heads.items; lists = c.self.inside.lists.items; entered = c.self.inside.entered }) c.args.live.now = subst (λ (o : Occurring). AreListed o c.args.live.now) (sym c.self.view_is) c.requires in
     let head : c.head_of-head.result ≡ head_at c.self.inside.heads.items (literal_code c.args.l) = c.head_of-head.ensures ∙ ap (λ x. head_at x (literal_code c.args.l)) c.deref.ensures.value in
     let within : c.head_of-head.result - 1 < length c.self.inside.lists.items = omega (arith, head, c.self.invariant.known (literal_code c.args.l), c.if-head-eq0.false) in
     let is : c.keep_live.new.self ≡ live_only c.args.live.now (get_or c.self.inside.lists.items (c.head_of-head.result - 1) []) = found c.self.inside.lists.items (c.head_of-head.result - 1) c.args.live.now c.index_mut-list.result.now c.keep_live.new.self within c.index_mut-list.ensures.value c.keep_live.ensures in
@@ -37,7 +37,7 @@ returns-clause-listed c =
 
 pub returns-clause-ok : goal.returns-clause-ok
 returns-clause-ok c =
-    let listed : AreListed (record { built = c.self.inside.built; heads = c.self.inside.heads.items; lists = c.self.inside.lists.items }) c.args.live.now = subst (λ (o : Occurring). AreListed o c.args.live.now) (sym c.self.view_is) c.requires in
+    let listed : AreListed (record { built = c.self.inside.built; heads = c.self.inside.heads.items; lists = c.self.inside.lists.items; entered = c.self.inside.entered }) c.args.live.now = subst (λ (o : Occurring). AreListed o c.args.live.now) (sym c.self.view_is) c.requires in
     let head : c.head_of-head.result ≡ head_at c.self.inside.heads.items (literal_code c.args.l) = c.head_of-head.ensures ∙ ap (λ x. head_at x (literal_code c.args.l)) c.deref.ensures.value in
     let within : c.head_of-head.result - 1 < length c.self.inside.lists.items = omega (arith, head, c.self.invariant.known (literal_code c.args.l), c.if-head-eq0.false) in
     let is : c.keep_live.new.self ≡ live_only c.args.live.now (get_or c.self.inside.lists.items (c.head_of-head.result - 1) []) = found c.self.inside.lists.items (c.head_of-head.result - 1) c.args.live.now c.index_mut-list.result.now c.keep_live.new.self within c.index_mut-list.ensures.value c.keep_live.ensures in
