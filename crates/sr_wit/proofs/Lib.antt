@@ -1,4 +1,5 @@
 pub mod PieceLemmas
+pub mod GroupLemmas
 pub mod PartLemmas
 pub mod WitnessLemmas
 pub mod KeptLemmas

@@ -2,6 +2,7 @@ pub mod Pieces
 pub mod Formulas
 pub mod Signs
 pub mod Kept
+pub mod Groups
 pub mod Tables
 pub mod Reductions
 pub mod Steps

@@ -15,7 +15,7 @@ mod subst;
 
 pub use fault::InFault;
 pub use formula::Formula;
-pub use group::{Group, GroupList};
+pub use group::GroupList;
 pub use item::{ItemList, LsrItem, StepList};
 pub use reduce::Reduced;
 pub use sr_model::Image;
