@@ -8,11 +8,9 @@ use Rattle.sr_desk.specs.Outside.{Outside}
 use Rattle.sr_desk.specs.Reader.{Reader}
 use Rattle.sr_model.specs.declared.tokens.Token.{Token}
 use Rattle.sr_model.specs.declared.tokens.Word.{Word}
-use Rattle.sr_model.specs.declared.tokens.Word.TheVariants as word
-use Rattle.sr_model.specs.Texts.{Texts, finished, stopped, over}
+use Rattle.sr_model.specs.Texts.{Texts, stopped, over}
 use Rattle.sr_model.specs.Binary.{open_after}
 use Rattle.sr_model.specs.Lsr.{ItemRead, misspells, passes}
-use Rattle.sr_scan.specs.Left.{StandsFirst}
 use Rattle.sr_wit.specs.declared.fault.InFault.{InFault}
 use Rattle.sr_wit.specs.declared.fault.InFault.TheVariants.{Text, Limit, Source, NoMemory}
 use Rattle.sr_wit.specs.declared.item.LsrItem.{LsrItem}

@@ -1,171 +1,173 @@
--- What a token does to a run of hints, and what runs make of the hints of a step.
-use Rattle.std.proofs.Common.{◌≡◌, ◌∙◌, ℕ, ℤ, pos, negsuc, zero, suc, ◌+◌, ◌<◌, ◌≤◌, ◌≤ℤ◌, ◌<ℤ◌, refl, sym, ap, subst, map, List, [], ◌∷◌, ◌++◌, Option, Some, Ok, Err, append_assoc, add-one, arith}
+-- What a token does to the hints of a step, and what a number does to its prefix and groups.
+use Rattle.std.proofs.Common.{◌≡◌, ◌∙◌, ℕ, ℤ, pos, negsuc, ◌+◌, ◌<◌, ◌≤◌, ◌≤ℤ◌, ◌<ℤ◌, refl, sym, ap, subst, List, [], ◌∷◌, ◌++◌, length, Option, Some, Ok, Err, arith}
 use Rattle.std.specs.Prelude.{nat_abs}
+use Rattle.std.specs.List.{All}
 use Rattle.std.proofs.lemmas.Int.{ints}
-use Rattle.std.proofs.lemmas.List.{map_push}
+use Rattle.std.proofs.lemmas.List.Elements.{All-cons, All-head, All-tail, All-push}
 use Rattle.sr_base.specs.declared.names.Form.{Form}
 use Rattle.sr_base.specs.declared.names.LimitKind.TheVariants as limit
 use Rattle.sr_desk.specs.Outside.{Outside}
 use Rattle.sr_desk.specs.Reader.{Reader}
-use Rattle.sr_model.specs.declared.tokens.Word.{Word}
 use Rattle.sr_model.specs.declared.tokens.Word.TheVariants as word
 use Rattle.sr_model.specs.declared.tokens.Token.{Token}
 use Rattle.sr_model.specs.Texts.{Texts, next}
 use Rattle.sr_model.specs.Binary.{open_after}
-use Rattle.sr_model.specs.Lsr.{numbers_after, prefix_of, groups_of}
+use Rattle.sr_model.specs.Meeting.{Group}
+use Rattle.sr_model.specs.Lsr.{numbers_after, by_number, prefix_of, groups_of}
 use Rattle.sr_wit.specs.declared.fault.InFault.{InFault}
 use Rattle.sr_wit.specs.declared.fault.InFault.TheVariants.{Text, Limit}
+use Rattle.sr_wit.specs.Groups.{with_hint}
 use Rattle.sr_lemma.specs.Left.{tokens_left}
 use Rattle.sr_lemma.specs.Reads.{misplaced, WhereTold, StopsNumbers, GivesFront}
-use Rattle.sr_lemma.proofs.NumberLemmas.{at_number, at_default, by_number_more, by_number_above, front_next, front_stop, open_number}
-use Rattle.sr_lsr.specs.Reads.{after_run, open_behind, GivesRun}
+use Rattle.sr_lemma.proofs.NumberLemmas.{at_number, at_default, by_number_more, by_number_above, front_next, front_stop, open_number, open_zero}
+use Rattle.sr_lsr.specs.declared.hints.Hints.{Hints}
+use Rattle.sr_lsr.specs.Written.{IsSmall, IsSmallGroup}
+use Rattle.sr_lsr.specs.Told.{Spells, SpellsMore}
+use Rattle.sr_lsr.specs.Reads.{GivesHints}
 
--- a number that isn't positive ends a run
-run_end : (bound : ℕ) (these : List ℤ) (t : Token) (x : ℤ) (rest : Texts) → t.word ≡ word.Number x → x ≤ℤ pos 0 → nat_abs x ≤ bound
-    → numbers_after limit.Ids bound these (next t rest) ≡ after_run bound these (nat_abs x) t.place rest
-run_end bound these t (pos zero) rest e le within = at_number limit.Ids bound these t (pos zero) rest e
-run_end bound these t (pos (suc n)) rest e le within = absurd (omega (arith, ints, le))
-run_end bound these t (negsuc n) rest e le within =
-    at_number limit.Ids bound these t (negsuc n) rest e
-    ∙ by_number_more limit.Ids bound (negsuc n) t.place these rest (numbers_after limit.Ids bound (these ++ negsuc n ∷ []) rest) (λ e. cc) within
-
--- and with 0 the list of hints ends
-open_run : (w : Word) (x : ℤ) → w ≡ word.Number x → x ≤ℤ pos 0 → open_after 2 1 w ≡ open_behind (nat_abs x)
-open_run w x e le = ap (open_after 2 1) e ∙ at x le
-  where
-    at : (x : ℤ) → x ≤ℤ pos 0 → open_after 2 1 (word.Number x) ≡ open_behind (nat_abs x)
-    at (pos zero) le = refl
-    at (pos (suc n)) le = absurd (omega (arith, ints, le))
-    at (negsuc n) le = refl
-
--- a positive number goes on with it
-run_more : (bound : ℕ) (these : List ℤ) (hints hints' : List ℕ) (t : Token) (x : ℤ) (n : ℕ) (rest : Texts) → t.word ≡ word.Number x → pos 0 <ℤ x → n ≡ nat_abs x → nat_abs x ≤ bound
-    → hints' ≡ hints ++ n ∷ [] → numbers_after limit.Ids bound (these ++ map pos hints) (next t rest) ≡ numbers_after limit.Ids bound (these ++ map pos hints') rest
-run_more bound these hints hints' t (pos m) n rest e up is within p =
-    at_number limit.Ids bound (these ++ map pos hints) t (pos m) rest e
-    ∙ by_number_more limit.Ids bound (pos m) t.place (these ++ map pos hints) rest (numbers_after limit.Ids bound ((these ++ map pos hints) ++ pos m ∷ []) rest) (λ z. absurd (omega (arith, ints, up, z))) within
-    ∙ ap (λ l. numbers_after limit.Ids bound l rest)
-    (append_assoc these (map pos hints) (pos m ∷ []) ∙ ap (λ l. these ++ l) (ap (λ k. map pos hints ++ pos k ∷ []) (sym is) ∙ sym (map_push pos hints n) ∙ ap (map pos) (sym p)))
-run_more bound these hints hints' t (negsuc m) n rest e up is within p = absurd (omega (arith, ints, up))
-
--- whatever came before, the hints that were read and what is left spell what stood at the front
-abbrev pub Running : Form → ℕ → Reader → Reader → Outside → Outside → List ℕ → Type 0
-Running form bound old new before after hints =
+-- the hints that were read and what is left spell what stood at the front
+abbrev pub Reading : Form → ℕ → Reader → Reader → Outside → Outside → Hints → Type 0
+Reading form bound old new before after hints =
     WhereTold (tokens_left form 2 1 old before) (tokens_left form 2 1 new after)
-    (λ all left. (these : List ℤ) → numbers_after limit.Ids bound these all ≡ numbers_after limit.Ids bound (these ++ map pos hints) left)
+    (λ all left. (these : List ℤ) × (numbers_after limit.Ids bound [] all ≡ numbers_after limit.Ids bound these left) × Spells these hints)
 
--- no further token, one that is no number, and one above the bound
-pub running_stop : (form : Form) (bound : ℕ) (old mid new : Reader) (before between after : Outside) (hints : List ℕ) (left : Option Texts) (e : InFault)
-    → Running form bound old mid before between hints → GivesFront form 2 1 mid new between after (Err e) → GivesRun bound (tokens_left form 2 1 old before) left (Err e)
-running_stop form bound old mid new before between after hints left e inv given all h these =
+pub reading_first : (form : Form) (bound : ℕ) (old : Reader) (before : Outside) (hints : Hints) → hints.prefix ≡ [] → hints.groups ≡ [] → Reading form bound old old before before hints
+reading_first form bound old before hints p q all h = (all, h, ([], refl, (sym p, sym q)))
+
+-- no further token
+pub reading_stop : (form : Form) (bound : ℕ) (old mid new : Reader) (before between after : Outside) (hints : Hints) (left : Option Texts) (e : InFault)
+    → Reading form bound old mid before between hints → GivesFront form 2 1 mid new between after (Err e) → GivesHints bound (tokens_left form 2 1 old before) left (Err e)
+reading_stop form bound old mid new before between after hints left e inv given all h =
     let s = inv all h in
-    subst (StopsNumbers e) (sym (s.2 these)) (front_stop form 2 1 mid new between after e given limit.Ids bound (these ++ map pos hints) s.0 s.1)
+    subst (StopsNumbers e) (sym s.2.1) (front_stop form 2 1 mid new between after e given limit.Ids bound s.2.0 s.0 s.1)
 
-running_next : (form : Form) (bound : ℕ) (old mid new : Reader) (before between after : Outside) (hints : List ℕ) (t : Token)
-    → Running form bound old mid before between hints → GivesFront form 2 1 mid new between after (Ok t) → (all : Texts) → tokens_left form 2 1 old before ≡ Some all
-    → (rest : Texts) × (tokens_left form 2 (open_after 2 1 t.word) new after ≡ Some rest) × ((these : List ℤ) → numbers_after limit.Ids bound these all ≡ numbers_after limit.Ids bound (these ++ map pos hints) (next t rest))
-running_next form bound old mid new before between after hints t inv given all h =
+-- a token
+reading_next : (form : Form) (bound : ℕ) (old mid new : Reader) (before between after : Outside) (hints : Hints) (t : Token)
+    → Reading form bound old mid before between hints → GivesFront form 2 1 mid new between after (Ok t) → (all : Texts) → tokens_left form 2 1 old before ≡ Some all
+    → (rest : Texts) × (tokens_left form 2 (open_after 2 1 t.word) new after ≡ Some rest) × (these : List ℤ) × (numbers_after limit.Ids bound [] all ≡ numbers_after limit.Ids bound these (next t rest)) × Spells these hints
+reading_next form bound old mid new before between after hints t inv given all h =
     let s = inv all h in
     let f = front_next (tokens_left form 2 1 mid between) (tokens_left form 2 (open_after 2 1 t.word) new after) t given s.0 s.1 in
-    (f.0, f.1, λ these. s.2 these ∙ f.2 limit.Ids bound (these ++ map pos hints))
+    (f.0, f.1, s.2.0, s.2.1 ∙ f.2 limit.Ids bound s.2.0, s.2.2)
 
-pub running_default : (form : Form) (bound : ℕ) (old mid new : Reader) (before between after : Outside) (hints : List ℕ) (left : Option Texts) (t : Token)
-    → Running form bound old mid before between hints → GivesFront form 2 1 mid new between after (Ok t) → ((x : ℤ) → t.word ≡ word.Number x → ⊥)
-    → GivesRun bound (tokens_left form 2 1 old before) left (Err (Text (misplaced t.word) t.place))
-running_default form bound old mid new before between after hints left t inv given n all h these =
-    let f = running_next form bound old mid new before between after hints t inv given all h in
-    f.2 these ∙ at_default limit.Ids bound (these ++ map pos hints) t f.0 n
+-- one that is no number, and one above the bound
+pub reading_default : (form : Form) (bound : ℕ) (old mid new : Reader) (before between after : Outside) (hints : Hints) (left : Option Texts) (t : Token)
+    → Reading form bound old mid before between hints → GivesFront form 2 1 mid new between after (Ok t) → ((x : ℤ) → t.word ≡ word.Number x → ⊥)
+    → GivesHints bound (tokens_left form 2 1 old before) left (Err (Text (misplaced t.word) t.place))
+reading_default form bound old mid new before between after hints left t inv given n all h =
+    let f = reading_next form bound old mid new before between after hints t inv given all h in
+    f.3 ∙ at_default limit.Ids bound f.2 t f.0 n
 
-pub running_above : (form : Form) (bound : ℕ) (old mid new : Reader) (before between after : Outside) (hints : List ℕ) (left : Option Texts) (t : Token) (x : ℤ)
-    → Running form bound old mid before between hints → GivesFront form 2 1 mid new between after (Ok t) → t.word ≡ word.Number x → bound < nat_abs x
-    → GivesRun bound (tokens_left form 2 1 old before) left (Err (Limit limit.Ids))
-running_above form bound old mid new before between after hints left t x inv given e past all h these =
-    let f = running_next form bound old mid new before between after hints t inv given all h in
-    let some : x ≡ pos 0 → ⊥ = λ z. let none : nat_abs x ≡ 0 = ap nat_abs z in absurd (omega (arith, past, none)) in
-    f.2 these ∙ at_number limit.Ids bound (these ++ map pos hints) t x f.0 e
-    ∙ by_number_above limit.Ids bound x t.place (these ++ map pos hints) f.0 (numbers_after limit.Ids bound ((these ++ map pos hints) ++ x ∷ []) f.0) some past
+pub reading_above : (form : Form) (bound : ℕ) (old mid new : Reader) (before between after : Outside) (hints : Hints) (left : Option Texts) (t : Token) (x : ℤ)
+    → Reading form bound old mid before between hints → GivesFront form 2 1 mid new between after (Ok t) → t.word ≡ word.Number x → (x ≡ pos 0 → ⊥) → bound < nat_abs x
+    → GivesHints bound (tokens_left form 2 1 old before) left (Err (Limit limit.Ids))
+reading_above form bound old mid new before between after hints left t x inv given e some past all h =
+    let f = reading_next form bound old mid new before between after hints t inv given all h in
+    f.3 ∙ at_number limit.Ids bound f.2 t x f.0 e
+    ∙ by_number_above limit.Ids bound x t.place f.2 f.0 (numbers_after limit.Ids bound (f.2 ++ x ∷ []) f.0) some past
 
--- the end of the run
-pub running_end : (form : Form) (bound : ℕ) (old mid new : Reader) (before between after : Outside) (hints : List ℕ) (t : Token) (x : ℤ) (n : ℕ)
-    → Running form bound old mid before between hints → GivesFront form 2 1 mid new between after (Ok t) → t.word ≡ word.Number x → x ≤ℤ pos 0 → n ≡ nat_abs x → nat_abs x ≤ bound
-    → GivesRun bound (tokens_left form 2 1 old before) (tokens_left form 2 (open_behind n) new after) (Ok (hints, n))
-running_end form bound old mid new before between after hints t x n inv given e down size within all h =
-    let f = running_next form bound old mid new before between after hints t inv given all h in (
+-- the end of the hints
+pub reading_end : (form : Form) (bound : ℕ) (old mid new : Reader) (before between after : Outside) (hints : Hints) (t : Token) (x : ℤ)
+    → Reading form bound old mid before between hints → GivesFront form 2 1 mid new between after (Ok t) → t.word ≡ word.Number x → x ≡ pos 0
+    → GivesHints bound (tokens_left form 2 1 old before) (tokens_left form 2 0 new after) (Ok (hints.prefix, hints.groups))
+reading_end form bound old mid new before between after hints t x inv given e z all h =
+    let f = reading_next form bound old mid new before between after hints t inv given all h in (
       f.0,
-      ap (λ (k : ℕ). tokens_left form 2 k new after) (ap open_behind size ∙ sym (open_run t.word x e down)) ∙ f.1,
+      ap (λ (k : ℕ). tokens_left form 2 k new after) (sym (open_zero 2 0 t.word x e z)) ∙ f.1,
       (
+        f.2,
         t.place,
-        λ these. f.2 these ∙ run_end bound (these ++ map pos hints) t x f.0 e down within ∙ ap (λ (k : ℕ). after_run bound (these ++ map pos hints) k t.place f.0) (sym size),
+        f.3 ∙ at_number limit.Ids bound f.2 t x f.0 e ∙ ap (λ y. by_number limit.Ids bound y t.place f.2 f.0 (numbers_after limit.Ids bound (f.2 ++ y ∷ []) f.0)) z,
+        f.4.0,
+        f.4.1,
       ),
     )
 
--- one hint more
-pub running_more : (form : Form) (bound : ℕ) (old mid new : Reader) (before between after : Outside) (hints hints' : List ℕ) (t : Token) (x : ℤ) (n : ℕ)
-    → Running form bound old mid before between hints → GivesFront form 2 1 mid new between after (Ok t) → t.word ≡ word.Number x → pos 0 <ℤ x → n ≡ nat_abs x → nat_abs x ≤ bound
-    → hints' ≡ hints ++ n ∷ [] → Running form bound old new before after hints'
-running_more form bound old mid new before between after hints hints' t x n inv given e up size within p all h =
-    let f = running_next form bound old mid new before between after hints t inv given all h in
-    let some : x ≡ pos 0 → ⊥ = λ z. absurd (omega (arith, ints, up, z)) in (
+-- one number more
+pub reading_more : (form : Form) (bound : ℕ) (old mid new : Reader) (before between after : Outside) (hints hints' : Hints) (t : Token) (x : ℤ)
+    → Reading form bound old mid before between hints → GivesFront form 2 1 mid new between after (Ok t) → t.word ≡ word.Number x → (x ≡ pos 0 → ⊥) → nat_abs x ≤ bound
+    → SpellsMore hints hints' x → Reading form bound old new before after hints'
+reading_more form bound old mid new before between after hints hints' t x inv given e some within more all h =
+    let f = reading_next form bound old mid new before between after hints t inv given all h in (
       f.0,
       ap (λ (k : ℕ). tokens_left form 2 k new after) (sym (open_number 2 0 t.word x e some)) ∙ f.1,
-      λ these. f.2 these ∙ run_more bound these hints hints' t x n f.0 e up size within p,
+      (
+        f.2 ++ x ∷ [],
+        f.3 ∙ at_number limit.Ids bound f.2 t x f.0 e
+            ∙ by_number_more limit.Ids bound x t.place f.2 f.0 (numbers_after limit.Ids bound (f.2 ++ x ∷ []) f.0) some within,
+        more f.2 f.4,
+      ),
     )
 
--- behind a number a list is open
-pub open_group : (n : ℕ) → (n ≡ 0 → ⊥) → open_behind n ≡ 1
-open_group zero some = absurd (some refl)
-open_group (suc n) some = refl
+-- a negative number begins a group
+prefix_begin : (these : List ℤ) (n : ℕ) → prefix_of (these ++ negsuc n ∷ []) ≡ prefix_of these
+prefix_begin [] n = refl
+prefix_begin (pos h ∷ hs) n = ap (λ l. h ∷ l) (prefix_begin hs n)
+prefix_begin (negsuc h ∷ hs) n = refl
 
-pub prefix_positive : (hints : List ℕ) → prefix_of (map pos hints) ≡ hints
-prefix_positive [] = refl
-prefix_positive (h ∷ hs) = ap (λ l. h ∷ l) (prefix_positive hs)
+groups_begin : (these : List ℤ) (n : ℕ) → groups_of (these ++ negsuc n ∷ []) ≡ groups_of these ++ (n + 1, []) ∷ []
+groups_begin [] n = refl
+groups_begin (pos h ∷ hs) n = groups_begin hs n
+groups_begin (negsuc h ∷ hs) n = ap (λ l. (h + 1, l) ∷ groups_of (hs ++ negsuc n ∷ [])) (prefix_begin hs n) ∙ ap (λ l. (h + 1, prefix_of hs) ∷ l) (groups_begin hs n)
 
-pub groups_positive : (hints : List ℕ) → groups_of (map pos hints) ≡ []
-groups_positive [] = refl
-groups_positive (h ∷ hs) = groups_positive hs
+pub spells_begin : (hints hints' : Hints) (x : ℤ) (size : ℕ) → x <ℤ pos 0 → size ≡ nat_abs x → hints'.prefix ≡ hints.prefix → hints'.groups ≡ hints.groups ++ (size, []) ∷ [] → SpellsMore hints hints' x
+spells_begin hints hints' (pos n) size down e p q these s = absurd (omega (arith, ints, down))
+spells_begin hints hints' (negsuc n) size down e p q these s =
+    let counted : size ≡ n + 1 = omega (arith, e) in (
+      prefix_begin these n ∙ s.0 ∙ sym p,
+      groups_begin these n ∙ ap (λ gs. gs ++ (n + 1, []) ∷ []) s.1 ∙ ap (λ (k : ℕ). hints.groups ++ (k, []) ∷ []) (sym counted) ∙ sym q,
+    )
 
-prefix_group : (these : List ℤ) (n : ℕ) (more : List ℤ) → prefix_of (these ++ negsuc n ∷ more) ≡ prefix_of these
-prefix_group [] n more = refl
-prefix_group (pos h ∷ hs) n more = ap (λ l. h ∷ l) (prefix_group hs n more)
-prefix_group (negsuc h ∷ hs) n more = refl
+pub positive_is : (x : ℤ) (size : ℕ) → pos 0 ≤ℤ x → size ≡ nat_abs x → x ≡ pos size
+positive_is (pos n) size up e = ap pos (sym e)
+positive_is (negsuc n) size up e = absurd (omega (arith, ints, up))
 
-groups_group : (these : List ℤ) (n : ℕ) (hints : List ℕ) → groups_of (these ++ negsuc n ∷ map pos hints) ≡ groups_of these ++ (n + 1, hints) ∷ []
-groups_group [] n hints = rw (prefix_positive hints, groups_positive hints) refl
-groups_group (pos h ∷ hs) n hints = groups_group hs n hints
-groups_group (negsuc h ∷ hs) n hints = rw (prefix_group hs n (map pos hints), groups_group hs n hints) refl
+-- a positive one without a group is a hint of the prefix
+prefix_outside : (these : List ℤ) (n : ℕ) → groups_of these ≡ [] → prefix_of (these ++ pos n ∷ []) ≡ prefix_of these ++ n ∷ []
+prefix_outside [] n e = refl
+prefix_outside (pos h ∷ hs) n e = ap (λ l. h ∷ l) (prefix_outside hs n e)
+prefix_outside (negsuc h ∷ hs) n e = absurd (cc)
 
--- one group more
-hints_more : (bound : ℕ) (these : List ℤ) (id after : ℕ) (hints : List ℕ) (place place' : ℕ) (all left rest : Texts) → (id ≡ 0 → ⊥)
-    → numbers_after limit.Ids bound [] all ≡ after_run bound these id place left
-    → ((before : List ℤ) → numbers_after limit.Ids bound before left ≡ after_run bound (before ++ map pos hints) after place' rest)
-    → (more : List ℤ) × (end : ℕ) × (numbers_after limit.Ids bound [] all ≡ after_run bound more after end rest) × (prefix_of more ≡ prefix_of these) × (groups_of more ≡ groups_of these ++ (id, hints) ∷ [])
-hints_more bound these zero after hints place place' all left rest some e run = absurd (some refl)
-hints_more bound these (suc n) after hints place place' all left rest some e run = (
-  these ++ negsuc n ∷ map pos hints,
-  place',
-  e ∙ run (these ++ negsuc n ∷ []) ∙ ap (λ l. after_run bound l after place' rest) (append_assoc these (negsuc n ∷ []) (map pos hints)),
-  prefix_group these n (map pos hints),
-  groups_group these n hints ∙ ap (λ k. groups_of these ++ (k, hints) ∷ []) (add-one n),
+groups_outside : (these : List ℤ) (n : ℕ) → groups_of these ≡ [] → groups_of (these ++ pos n ∷ []) ≡ []
+groups_outside [] n e = refl
+groups_outside (pos h ∷ hs) n e = groups_outside hs n e
+groups_outside (negsuc h ∷ hs) n e = absurd (cc)
+
+pub spells_outside : (hints hints' : Hints) (x : ℤ) (n : ℕ) → x ≡ pos n → hints.groups ≡ [] → hints'.prefix ≡ hints.prefix ++ n ∷ [] → hints'.groups ≡ hints.groups → SpellsMore hints hints' x
+spells_outside hints hints' x n e z p q these s = (
+  ap (λ y. prefix_of (these ++ y ∷ [])) e ∙ prefix_outside these n (s.1 ∙ z) ∙ ap (λ l. l ++ n ∷ []) s.0 ∙ sym p,
+  ap (λ y. groups_of (these ++ y ∷ [])) e ∙ groups_outside these n (s.1 ∙ z) ∙ sym z ∙ sym q,
 )
 
--- the prefix and the groups that were read, the number of the next group, and what is left spell what stood at the front
-abbrev pub Grouping : Form → ℕ → Reader → Reader → Outside → Outside → List ℕ → List (ℕ × List ℕ) → ℕ → Type 0
-Grouping form bound old new before after prefix groups id =
-    WhereTold (tokens_left form 2 1 old before) (tokens_left form 2 (open_behind id) new after)
-    (λ all left. (these : List ℤ) × (place : ℕ) × (numbers_after limit.Ids bound [] all ≡ after_run bound these id place left) × (prefix_of these ≡ prefix) × (groups_of these ≡ groups))
+-- and behind one it is a hint of the last group
+prefix_inside : (these : List ℤ) (n : ℕ) → 0 < length (groups_of these) → prefix_of (these ++ pos n ∷ []) ≡ prefix_of these
+prefix_inside [] n l = absurd (omega arith)
+prefix_inside (pos h ∷ hs) n l = ap (λ l. h ∷ l) (prefix_inside hs n l)
+prefix_inside (negsuc h ∷ hs) n l = refl
 
-pub grouping_first : (form : Form) (bound : ℕ) (old new : Reader) (before after : Outside) (prefix : List ℕ) (groups : List (ℕ × List ℕ)) (id : ℕ)
-    → GivesRun bound (tokens_left form 2 1 old before) (tokens_left form 2 (open_behind id) new after) (Ok (prefix, id)) → groups ≡ [] → Grouping form bound old new before after prefix groups id
-grouping_first form bound old new before after prefix groups id run e all h =
-    let r = run all h in
-    (r.0, r.1, (map pos prefix, r.2.0, r.2.1 [], prefix_positive prefix, groups_positive prefix ∙ sym e))
+group_inside : (h n : ℕ) (hs : List ℤ) (gs : List Group) → groups_of hs ≡ gs → (0 < length gs → groups_of (hs ++ pos n ∷ []) ≡ with_hint gs n)
+    → (h + 1, prefix_of (hs ++ pos n ∷ [])) ∷ groups_of (hs ++ pos n ∷ []) ≡ with_hint ((h + 1, prefix_of hs) ∷ gs) n
+group_inside h n hs [] e more = rw (prefix_outside hs n e, groups_outside hs n e) refl
+group_inside h n hs (g ∷ gs) e more =
+    ap (λ l. (h + 1, l) ∷ groups_of (hs ++ pos n ∷ [])) (prefix_inside hs n (omega (arith, ap length e))) ∙ ap (λ l. (h + 1, prefix_of hs) ∷ l) (more (omega arith))
 
-pub grouping_more : (form : Form) (bound : ℕ) (old mid new : Reader) (before between after : Outside) (prefix : List ℕ) (groups groups' : List (ℕ × List ℕ)) (id : ℕ) (hints : List ℕ) (next' : ℕ)
-    → Grouping form bound old mid before between prefix groups id → (id ≡ 0 → ⊥) → GivesRun bound (tokens_left form 2 1 mid between) (tokens_left form 2 (open_behind next') new after) (Ok (hints, next'))
-    → groups' ≡ groups ++ (id, hints) ∷ [] → Grouping form bound old new before after prefix groups' next'
-grouping_more form bound old mid new before between after prefix groups groups' id hints next' inv some run p all h =
-    let i = inv all h in
-    let stays : tokens_left form 2 1 mid between ≡ Some i.0 = ap (λ (k : ℕ). tokens_left form 2 k mid between) (sym (open_group id some)) ∙ i.1 in
-    let r = run i.0 stays in
-    let m = hints_more bound i.2.0 id next' hints i.2.1 r.2.0 all i.0 r.0 some i.2.2 r.2.1 in
-    (r.0, r.1, (m.0, m.1, m.2, m.3 ∙ i.2.3, m.4 ∙ ap (λ gs. gs ++ (id, hints) ∷ []) i.2.4 ∙ sym p))
+groups_inside : (these : List ℤ) (n : ℕ) → 0 < length (groups_of these) → groups_of (these ++ pos n ∷ []) ≡ with_hint (groups_of these) n
+groups_inside [] n l = absurd (omega arith)
+groups_inside (pos h ∷ hs) n l = groups_inside hs n l
+groups_inside (negsuc h ∷ hs) n l = group_inside h n hs (groups_of hs) refl (groups_inside hs n)
+
+pub spells_inside : (hints hints' : Hints) (x : ℤ) (n : ℕ) → x ≡ pos n → 0 < length hints.groups → hints'.prefix ≡ hints.prefix → hints'.groups ≡ with_hint hints.groups n → SpellsMore hints hints' x
+spells_inside hints hints' x n e some p q these s =
+    let there : 0 < length (groups_of these) = omega (arith, ap length s.1) in (
+      ap (λ y. prefix_of (these ++ y ∷ [])) e ∙ prefix_inside these n there ∙ s.0 ∙ sym p,
+      ap (λ y. groups_of (these ++ y ∷ [])) e ∙ groups_inside these n there ∙ ap (λ gs. with_hint gs n) s.1 ∙ sym q,
+    )
+
+-- numbers stay small
+pub with_hint-small : (gs : List Group) (n : ℕ) → IsSmall n → All IsSmallGroup gs → All IsSmallGroup (with_hint gs n)
+with_hint-small [] n s all = all
+with_hint-small (g ∷ []) n s all =
+    let first = All-head IsSmallGroup g [] all in
+    All-cons IsSmallGroup (g.0, g.1 ++ n ∷ []) [] (first.0, All-push IsSmall g.1 n first.1 s) (All-tail IsSmallGroup g [] all)
+with_hint-small (g ∷ k ∷ gs) n s all =
+    All-cons IsSmallGroup g (with_hint (k ∷ gs) n) (All-head IsSmallGroup g (k ∷ gs) all) (with_hint-small (k ∷ gs) n s (All-tail IsSmallGroup g (k ∷ gs) all))

@@ -1,13 +1,12 @@
 -- Items by the parts that are written.
-use Rattle.std.proofs.Common.{◌≡◌, ◌∙◌, ℕ, ℤ, pos, ◌+◌, ◌<◌, refl, sym, ap, List, [], ◌∷◌, ◌++◌, length, take, get_or, map, append_assoc}
+use Rattle.std.proofs.Common.{◌≡◌, ◌∙◌, ℕ, pos, ◌+◌, ◌<◌, refl, sym, ap, List, [], ◌∷◌, ◌++◌, length, take, get_or, map, append_assoc}
 use Rattle.std.specs.Prelude.{codes, decimal, neg_ℤ}
-use Rattle.std.specs.Fmt.{signed_decimal}
 use Rattle.std.proofs.lemmas.List.{take_more}
 use Rattle.sr_base.specs.declared.names.Form.{Form}
 use Rattle.sr_base.specs.declared.names.Form.TheVariants.{Text, Binary}
 use Rattle.sr_model.specs.Meeting.{Group, Step}
 use Rattle.sr_model.specs.Judging.{stepped, dropped}
-use Rattle.sr_model.specs.Writing.{spaced, groups_written, step_numbers, written_item}
+use Rattle.sr_model.specs.Writing.{groups_written, step_numbers, written_item}
 use Rattle.sr_lemma.specs.Written.{written_numbers, written_end}
 use Rattle.sr_lemma.proofs.WriteLemmas.{numbers_append, spaced_is}
 use Rattle.sr_lsr.specs.Written.{step_start, drop_start}

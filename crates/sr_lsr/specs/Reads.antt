@@ -1,5 +1,5 @@
 -- How what a reader gives and what is left to it spell what stood at its front.
-use Rattle.std.specs.Prelude.{ℕ, zero, suc, ◌≡◌, ◌-◌, ◌<◌, ◌≤◌, ◌++◌, ◌∷◌, [], ℤ, pos, negsuc, ◌<ℤ◌, nat_abs, List, map, Option, Some, None, Result, Ok, Err}
+use Rattle.std.specs.Prelude.{ℕ, ◌≡◌, ◌-◌, ◌<◌, ◌≤◌, [], ℤ, pos, ◌<ℤ◌, nat_abs, List, Option, Some, None, Result, Ok, Err}
 use Rattle.sr_base.specs.Limits.{LimitValues}
 use Rattle.sr_base.specs.declared.names.Form.{Form}
 use Rattle.sr_base.specs.declared.names.LimitKind.TheVariants as limit
@@ -7,7 +7,7 @@ use Rattle.sr_base.specs.declared.names.TextKind.TheVariants.{BadNumber}
 use Rattle.sr_desk.specs.Reader.{Reader}
 use Rattle.sr_model.specs.declared.tokens.Token.{Token}
 use Rattle.sr_model.specs.Texts.{Texts, next}
-use Rattle.sr_model.specs.Lsr.{NumbersRead, numbers, numbers_after, prefix_of, groups_of, ItemRead, item, none, misspells, passes, dropped_after, with_literals, kind_at}
+use Rattle.sr_model.specs.Lsr.{numbers, numbers_after, prefix_of, groups_of, ItemRead, item, none, misspells, passes, dropped_after, with_literals, kind_at}
 use Rattle.sr_model.specs.LsrBinary.{binary_step_at, item_in}
 use Rattle.sr_wit.specs.LsrItems.{item_of}
 use Rattle.sr_wit.specs.declared.item.LsrItem.{LsrItem}
@@ -34,21 +34,6 @@ GivesSize x bound place (Err (Text kind at)) = (x <ℤ pos 0) × (kind ≡ BadNu
 GivesSize x bound place (Err (Limit kind)) = (x ≡ pos (nat_abs x)) × (bound < nat_abs x) × (kind ≡ limit.Ids)
 GivesSize x bound place (Err Source) = ⊥
 GivesSize x bound place (Err NoMemory) = ⊥
-
--- what follows a run of hints: the group of a clause's number begins, or with no number all hints end
-abbrev pub after_run : ℕ → List ℤ → ℕ → ℕ → Texts → NumbersRead
-after_run bound these zero place rest = numbers these place rest
-after_run bound these (suc n) place rest = numbers_after limit.Ids bound (these ++ negsuc n ∷ []) rest
-
--- and so many lists are open there
-abbrev pub open_behind : ℕ → ℕ
-open_behind zero = 0
-open_behind (suc n) = 1
-
--- whatever hints came before, this run of positive ones follows
-abbrev pub GivesRun : ℕ → Option Texts → Option Texts → Result (List ℕ × ℕ) InFault → Type 0
-GivesRun bound old new (Ok r) = WhereTold old new (λ all rest. (place : ℕ) × ((these : List ℤ) → numbers_after limit.Ids bound these all ≡ after_run bound (these ++ map pos r.0) r.1 place rest))
-GivesRun bound old new (Err e) = WhereToldBefore old (λ all. (these : List ℤ) → StopsNumbers e (numbers_after limit.Ids bound these all))
 
 -- a prefix, and groups
 abbrev pub GivesHints : ℕ → Option Texts → Option Texts → Result (List ℕ × List (ℕ × List ℕ)) InFault → Type 0

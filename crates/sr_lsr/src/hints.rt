@@ -1,31 +1,21 @@
 // The hints of a step: its prefix, and groups, each of which a negative number begins.
-ghost use Rattle.std.specs.Prelude.{◌≡◌, ◌≤◌, true, IsTrue, IfOk, OnOk, All};
+ghost use Rattle.std.specs.Prelude.{◌≡◌, ◌≢◌, ◌≤◌, pos, unsigned_abs, true, IsTrue, IfOk, OnOk};
 ghost use Rattle.sr_desk.specs.Outside.{OnlyReads};
 ghost use Rattle.sr_desk.specs.Next.{IsSameReader};
 ghost use Rattle.sr_lemma.specs.Left.{tokens_left};
 ghost use Rattle.sr_lemma.specs.Reads.{HasInCause};
-ghost use Rattle.sr_lsr.specs.Reads.{GivesRun, GivesHints, TakesSome};
-ghost use Rattle.sr_lsr.specs.Told.{run_told, open_told, hints_told};
-ghost use Rattle.sr_lsr.specs.Written.{IsSmall, IsSmallGroup};
+ghost use Rattle.sr_lsr.specs.Reads.{GivesHints};
+ghost use Rattle.sr_lsr.specs.Told.{hints_told, SpellsMore, KeepsSmall, AreSmall};
 
-use sr_base::{Form, IdList, Items, LimitKind};
+use sr_base::{Form, IdList, Items, LimitKind, NoMemory};
 use sr_desk::{ByteReader, Desk};
 use sr_lemma::{misplaced, next_token, push_with_room};
 use sr_model::Word;
-use sr_wit::{Group, GroupList, InFault};
+use sr_wit::{GroupList, InFault};
 use std::alloc::Global;
 
-/// Few prefixes have more hints, and few groups.
+/// Few prefixes have more hints.
 const PREFIX_ROOM: usize = 64;
-
-const GROUP_ROOM: usize = 4;
-
-/// Positive hints, and the clause number of the group that begins behind them; 0 where all hints end.
-#[derive(Drop)]
-struct Run {
-    hints: IdList,
-    next: u32,
-}
 
 /// The hints of a step.
 #[derive(Drop)]
@@ -34,44 +24,23 @@ pub(crate) struct Hints {
     pub(crate) groups: GroupList,
 }
 
-/// The hints up to a negative number or `0`. With the first one a list takes so much room.
-fn read_run<D: Desk>(
-    alloc: Global,
-    room: usize,
-    form: Form,
-    bound: u32,
-    reader: &mut ByteReader,
-    desk: &mut D,
-) -> Result<Run, InFault>
-    requires reads { IsTrue ((D.outside desk.old).slot reader.old.slot).reads }
-    requires bound { bound ≤ 2147483647 }
-    ensures run { GivesRun bound (tokens_left form 2 1 reader.old (D.outside desk.old)) (tokens_left form 2 (open_told result) reader.new (D.outside desk.new)) (run_told result) }
-    ensures small { IfOk result (λ r. IsSmall r.next × All IsSmall r.hints) }
-    ensures takes { OnOk result (TakesSome reader.old reader.new) }
-    ensures same { IsSameReader reader.old reader.new }
-    ensures only { OnlyReads reader.old.slot (D.outside desk.old) (D.outside desk.new) }
-    ensures cause { HasInCause reader.old.slot (D.outside desk.old) (D.outside desk.new) result }
-{
-    let mut hints = Items::new(alloc);
-    'tokens: loop {
-        let token = next_token(form, false, reader, desk)?;
-        let Word::Number(x) = token.word else {
-            return Err(InFault::Text {
-                kind: misplaced(&token.word),
-                place: token.place,
-            });
-        };
-        let size = x.unsigned_abs();
-        if size > u64::from(bound) {
-            return Err(InFault::Limit(LimitKind::Ids));
+impl Hints {
+    /// Adds a number of this size. A negative one begins a group; another is a hint of the last group or, where there is
+    /// none, of the prefix.
+    #[inline]
+    fn add(&mut self, alloc: Global, number: i64, size: u32) -> Result<(), NoMemory>
+        requires some { number ≢ pos 0 }
+        requires size { size ≡ unsigned_abs number }
+        ensures spells { OnOk result (SpellsMore self.old self.new number) }
+        ensures small { OnOk result (KeepsSmall self.old self.new size) }
+    {
+        if number < 0 {
+            return self.groups.begin(size);
         }
-        let id = size as u32;
-        if x <= 0 {
-            return Ok(Run { hints, next: id });
+        if self.groups.len() == 0 {
+            return push_with_room(alloc, PREFIX_ROOM, &mut self.prefix, size);
         }
-        if push_with_room(alloc, room, &mut hints, id).is_err() {
-            return Err(InFault::NoMemory);
-        }
+        self.groups.add_hint(size)
     }
 }
 
@@ -86,23 +55,32 @@ pub(crate) fn read_hints<D: Desk>(
     requires reads { IsTrue ((D.outside desk.old).slot reader.old.slot).reads }
     requires bound { bound ≤ 2147483647 }
     ensures hints { GivesHints bound (tokens_left form 2 1 reader.old (D.outside desk.old)) (tokens_left form 2 0 reader.new (D.outside desk.new)) (hints_told result) }
-    ensures small { IfOk result (λ h. All IsSmall h.prefix × All IsSmallGroup h.groups) }
+    ensures small { IfOk result AreSmall }
     ensures same { IsSameReader reader.old reader.new }
     ensures only { OnlyReads reader.old.slot (D.outside desk.old) (D.outside desk.new) }
     ensures cause { HasInCause reader.old.slot (D.outside desk.old) (D.outside desk.new) result }
 {
-    let first = read_run(alloc, PREFIX_ROOM, form, bound, reader, desk)?;
-    let mut groups = Items::new(alloc);
-    let mut id = first.next;
-    'groups: while id != 0 {
-        let rest = read_run(alloc, GROUP_ROOM, form, bound, reader, desk)?;
-        if groups.push(Group::new(id, rest.hints)).is_err() {
+    let mut hints = Hints {
+        prefix: Items::new(alloc),
+        groups: GroupList::new(alloc),
+    };
+    'tokens: loop {
+        let token = next_token(form, false, reader, desk)?;
+        let Word::Number(x) = token.word else {
+            return Err(InFault::Text {
+                kind: misplaced(&token.word),
+                place: token.place,
+            });
+        };
+        if x == 0 {
+            return Ok(hints);
+        }
+        let size = x.unsigned_abs();
+        if size > u64::from(bound) {
+            return Err(InFault::Limit(LimitKind::Ids));
+        }
+        if hints.add(alloc, x, size as u32).is_err() {
             return Err(InFault::NoMemory);
         }
-        id = rest.next;
     }
-    Ok(Hints {
-        prefix: first.hints,
-        groups,
-    })
 }

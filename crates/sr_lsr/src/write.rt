@@ -8,7 +8,7 @@ ghost use Rattle.sr_lsr.specs.Written.{IsSmall, IsSmallGroup, IsSmallStep, IsSma
 
 use sr_base::{ByteList, Form, NoMemory};
 use sr_lemma::{put_clause, put_end, put_number};
-use sr_wit::{Group, LsrItem, Step};
+use sr_wit::{GroupList, LsrItem, Step};
 use std::alloc::Global;
 
 /// So many bytes are taken at once: few items are longer.
@@ -25,20 +25,20 @@ fn put_ids(form: Form, out: &mut ByteList, ids: &[u32]) -> Result<(), NoMemory>
 }
 
 /// A group is the number of its clause, negative, and its hints.
-fn put_group(form: Form, out: &mut ByteList, group: &Group) -> Result<(), NoMemory>
-    requires { IsSmallGroup group.now }
-    ensures { OnOk result (out.new ≡ out.old ++ written_numbers form (groups_written (group.now ∷ []))) }
+fn put_group(form: Form, out: &mut ByteList, id: u32, hints: &[u32]) -> Result<(), NoMemory>
+    requires { IsSmallGroup (id, hints.now) }
+    ensures { OnOk result (out.new ≡ out.old ++ written_numbers form (groups_written ((id, hints.now) ∷ []))) }
 {
-    put_number(form, out, -i64::from(group.id()))?;
-    put_ids(form, out, group.hints().as_slice())
+    put_number(form, out, -i64::from(id))?;
+    put_ids(form, out, hints)
 }
 
-fn put_groups(form: Form, out: &mut ByteList, groups: &[Group]) -> Result<(), NoMemory>
+fn put_groups(form: Form, out: &mut ByteList, groups: &GroupList) -> Result<(), NoMemory>
     requires { All IsSmallGroup groups.now }
     ensures { OnOk result (out.new ≡ out.old ++ written_numbers form (groups_written groups.now)) }
 {
-    for group in groups {
-        put_group(form, out, group)?;
+    for i in 0..groups.len() {
+        put_group(form, out, groups.id(i), groups.hints(i))?;
     }
     Ok(())
 }
@@ -52,7 +52,7 @@ fn put_step(form: Form, out: &mut ByteList, step: &Step) -> Result<(), NoMemory>
     put_clause(form, out, step.clause().lits(), step.witness())?;
     put_number(form, out, 0)?;
     put_ids(form, out, step.prefix().as_slice())?;
-    put_groups(form, out, step.groups().as_slice())
+    put_groups(form, out, step.groups())
 }
 
 /// In binary the byte `61` (hexadecimal) tells a step.

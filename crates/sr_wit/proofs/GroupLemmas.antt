@@ -2,6 +2,7 @@
 use Rattle.std.proofs.Common.{◌≡◌, ℕ, zero, suc, ◌+◌, ◌-◌, ◌≤◌, ◌<◌, List, [], ◌∷◌, ◌++◌, length, get_or, take, drop, refl, sym, ap, ◌∙◌, arith, length-drop}
 use Rattle.std.specs.Prelude.{slice_range}
 use Rattle.std.proofs.lemmas.List.{take_all, drop-append-le}
+use Rattle.sr_model.specs.Meeting.{Group}
 use Rattle.sr_wit.specs.declared.group.GroupStart.{GroupStart}
 use Rattle.sr_wit.specs.Groups.{end_before, AreStarts, groups_from, with_hint}
 use Rattle.sr_wit.proofs.PieceLemmas.{range-append}
@@ -79,3 +80,9 @@ groups-more (g ∷ k ∷ gs) hints hint h =
     let stays : slice_range (hints ++ hint ∷ []) g.start k.start ≡ slice_range hints g.start k.start = range-append hints (hint ∷ []) g.start k.start h.0 (end-le-whole (k ∷ gs) (length hints) h.1) in
     ap (λ l. (g.id, l) ∷ groups_from (k ∷ gs) (hints ++ hint ∷ [])) stays
     ∙ ap (λ l. (g.id, slice_range hints g.start k.start) ∷ l) (groups-more (k ∷ gs) hints hint h.1)
+
+-- the parts of a group make it whole
+pub group_at : (gs : List Group) (i id : ℕ) (hints : List ℕ) → i < length gs → id ≡ (get_or gs i (0, [])).0 → hints ≡ (get_or gs i (0, [])).1 → (id, hints) ≡ get_or gs i (id, hints)
+group_at [] i id hints l p q = absurd (omega arith)
+group_at (g ∷ gs) zero id hints l p q = ap (λ (n : ℕ). (n, hints)) p ∙ ap (λ hs. (g.0, hs)) q
+group_at (g ∷ gs) (suc i) id hints l p q = group_at gs i id hints (omega arith) p q

@@ -48,6 +48,7 @@ impl GroupList {
     }
 
     /// The number of groups.
+    #[inline]
     pub fn len(&self) -> usize
         ensures { result ≡ length self.now }
     {
@@ -55,6 +56,7 @@ impl GroupList {
     }
 
     /// The number of the clause of the group at an index.
+    #[inline]
     pub fn id(&self, i: usize) -> u32
         requires { i < length self.now }
         ensures { result ≡ (slice_index_or self.now i (0, [])).0 }
@@ -63,6 +65,7 @@ impl GroupList {
     }
 
     /// The hints of the group at an index, in order.
+    #[inline]
     pub fn hints(&self, i: usize) -> &[u32]
         requires { i < length self.now }
         ensures { result.now ≡ (slice_index_or self.now i (0, [])).1 }
@@ -71,6 +74,7 @@ impl GroupList {
     }
 
     /// Adds the group of a clause at the end, without hints. The list stays as it was where memory lacks.
+    #[inline]
     pub fn begin(&mut self, id: u32) -> Result<(), NoMemory>
         ensures ok { OnOk result (self.new ≡ self.old ++ (id, []) ∷ []) }
         ensures err { OnErr result (self.new ≡ self.old) }
@@ -90,6 +94,7 @@ impl GroupList {
     }
 
     /// Adds a hint to the last group. The list stays as it was where memory lacks.
+    #[inline]
     pub fn add_hint(&mut self, hint: u32) -> Result<(), NoMemory>
         requires { 0 < length self.old }
         ensures ok { OnOk result (self.new ≡ with_hint self.old hint) }

@@ -1,34 +1,65 @@
-use Rattle.std.proofs.Common.{◌≡◌, ◌++◌, ◌∷◌, [], rules, subst, sym, arith}
-use Rattle.std.proofs.lemmas.Grind.{common_steps}
-use Rattle.std.proofs.lemmas.List.Elements.{All-push}
-use Rattle.std.specs.List.{All}
+use Rattle.std.proofs.Common.{rules, pos, ℤ, ◌≡◌, ◌∙◌, ◌≤◌, ◌<◌, false, Ok, Err, refl, subst, sym, arith}
+use Rattle.std.specs.Prelude.{nat_abs, Result, OnOk, is_err}
+use Rattle.std.proofs.lemmas.Int.{ints, to_z-of_z}
+use Rattle.std.proofs.lemmas.Result.{err_from_is_err_and}
+use mir.Val.{SFits}
+use mir.Syntax.{w64}
 use Rattle.sr_desk.proofs.CallLemmas.{OnlyReads-trans}
+use Rattle.sr_lemma.specs.Left.{tokens_left}
 use Rattle.sr_lemma.proofs.NumberLemmas.{IsSameReader-trans}
-use Rattle.sr_lsr.specs.Written.{IsSmallGroup}
-use Rattle.sr_lsr.proofs.HintLemmas.{grouping_first, grouping_more}
+use Rattle.sr_lsr.specs.Told.{SpellsMore, KeepsSmall}
+use Rattle.sr_lsr.proofs.HintLemmas.{reading_stop, reading_default, reading_above, reading_end, reading_more}
 use Rattle.sr_lsr.proofs.hints.read_hints.Goals as goal
 
-pub groups-init : goal.groups-init
-groups-init g c = record {
-  hints = grouping_first c.args.form c.args.bound c.args.reader.now c.read_run.new.reader (g.D.Desk.outside c.args.desk.now) (g.D.Desk.outside c.read_run.new.desk)
-      c.in_ok-first.first.hints c.new-groups.result c.in_ok-first.first.next c.in_ok-first.ensures.run c.new-groups.ensures;
-  same = c.in_ok-first.ensures.same;
-  next = c.in_ok-first.ensures.small.0;
-  prefix = c.in_ok-first.ensures.small.1;
-  groups = rw c.new-groups.ensures (search rules);
-  only = c.in_ok-first.ensures.only;
-}
+on_ok : {T E : Type 0} (r : Result T E) (P : Type 0) → is_err r ≡ false → OnOk r P → P
+on_ok (Ok x) P e h = h
+on_ok (Err k) P e h = absurd (cc)
 
-pub groups-preserved : goal.groups-preserved
-groups-preserved g c =
-    let pushed : c.push.new.self ≡ c.groups.groups ++ (c.groups.id, c.in_ok-rest.rest.hints) ∷ [] = grind (arith, common_steps, c.new.ensures) in
+pub returns-in_err-token-clause-hints : goal.returns-in_err-token-clause-hints
+returns-in_err-token-clause-hints g c =
+    let p = err_from_is_err_and c.from_residual.result c.from_residual.ensures.1 in
+    rw (p.1, p.2) (reading_stop c.args.form c.args.bound c.args.reader.now c.tokens.reader c.next_token.new.reader (g.D.Desk.outside c.args.desk.now) (g.D.Desk.outside c.tokens.desk)
+    (g.D.Desk.outside c.next_token.new.desk) c.tokens.hints (tokens_left c.args.form 2 0 c.next_token.new.reader (g.D.Desk.outside c.next_token.new.desk)) c.in_err-token.field-0.0 c.tokens.invariant.hints
+    (c.in_err-token.ensures.token 2 1 (omega arith)))
+
+pub returns-in_default-clause-hints : goal.returns-in_default-clause-hints
+returns-in_default-clause-hints g c =
+    rw c.misplaced.ensures (reading_default c.args.form c.args.bound c.args.reader.now c.tokens.reader c.next_token.new.reader (g.D.Desk.outside c.args.desk.now) (g.D.Desk.outside c.tokens.desk)
+    (g.D.Desk.outside c.next_token.new.desk) c.tokens.hints (tokens_left c.args.form 2 0 c.next_token.new.reader (g.D.Desk.outside c.next_token.new.desk)) c.in_ok-token.token c.tokens.invariant.hints
+    (c.in_ok-token.ensures.token 2 1 (omega arith)) c.in_default.not-Number)
+
+pub returns-then-x-eq0-clause-hints : goal.returns-then-x-eq0-clause-hints
+returns-then-x-eq0-clause-hints g c =
+    let nought : c.in-Number.x ≡ pos 0 = omega (arith, ints, c.if-x-eq0.true) in
+    reading_end c.args.form c.args.bound c.args.reader.now c.tokens.reader c.next_token.new.reader (g.D.Desk.outside c.args.desk.now) (g.D.Desk.outside c.tokens.desk)
+    (g.D.Desk.outside c.next_token.new.desk) c.tokens.hints c.in_ok-token.token c.in-Number.x c.tokens.invariant.hints
+    (c.in_ok-token.ensures.token 2 1 (omega arith)) c.in-Number.is nought
+
+pub returns-then-size-from-clause-hints : goal.returns-then-size-from-clause-hints
+returns-then-size-from-clause-hints g c =
+    let some : c.in-Number.x ≡ pos 0 → ⊥ = λ e. c.if-x-eq0.false (rw e refl) in
+    let fits : SFits w64 c.in-Number.x = search rules in
+    let size : c.unsigned_abs-size.result ≡ nat_abs c.in-Number.x = rw (to_z-of_z w64 c.in-Number.x fits) at c.unsigned_abs-size.ensures.value in
+    let past : c.args.bound < nat_abs c.in-Number.x = omega (arith, size) in
+    reading_above c.args.form c.args.bound c.args.reader.now c.tokens.reader c.next_token.new.reader (g.D.Desk.outside c.args.desk.now) (g.D.Desk.outside c.tokens.desk)
+    (g.D.Desk.outside c.next_token.new.desk) c.tokens.hints (tokens_left c.args.form 2 0 c.next_token.new.reader (g.D.Desk.outside c.next_token.new.desk)) c.in_ok-token.token c.in-Number.x c.tokens.invariant.hints
+    (c.in_ok-token.ensures.token 2 1 (omega arith)) c.in-Number.is some past
+
+pub tokens-preserved : goal.tokens-preserved
+tokens-preserved g c =
+    let some : c.in-Number.x ≡ pos 0 → ⊥ = λ e. c.if-x-eq0.false (rw e refl) in
+    let fits : SFits w64 c.in-Number.x = search rules in
+    let size : c.unsigned_abs-size.result ≡ nat_abs c.in-Number.x = rw (to_z-of_z w64 c.in-Number.x fits) at c.unsigned_abs-size.ensures.value in
+    let within : nat_abs c.in-Number.x ≤ c.args.bound = omega (arith, size) in
+    let went : is_err c.add.result ≡ false = sym c.is_err.ensures.value ∙ c.if-is_err.false in
+    let more : SpellsMore c.tokens.hints c.add.new.self c.in-Number.x =
+    subst (λ (x : ℤ). SpellsMore c.tokens.hints c.add.new.self x) (to_z-of_z w64 c.in-Number.x fits) (on_ok c.add.result _ went c.add.ensures.spells) in
+    let small : KeepsSmall c.tokens.hints c.add.new.self c.unsigned_abs-size.result = on_ok c.add.result _ went c.add.ensures.small in
     record {
-      hints = grouping_more c.args.form c.args.bound c.args.reader.now c.groups.reader c.read_run-in-groups.new.reader (g.D.Desk.outside c.args.desk.now) (g.D.Desk.outside c.groups.desk)
-          (g.D.Desk.outside c.read_run-in-groups.new.desk) c.in_ok-first.first.hints c.groups.groups c.push.new.self c.groups.id c.in_ok-rest.rest.hints c.in_ok-rest.rest.next
-          c.groups.invariant.hints c.groups-test.true c.in_ok-rest.ensures.run pushed;
-      next = c.in_ok-rest.ensures.small.0;
-      prefix = c.groups.invariant.prefix;
-      groups = subst (All IsSmallGroup) (sym pushed) (All-push IsSmallGroup c.groups.groups (c.groups.id, c.in_ok-rest.rest.hints) c.groups.invariant.groups (c.groups.invariant.next, c.in_ok-rest.ensures.small.1));
-      same = IsSameReader-trans c.groups.invariant.same c.in_ok-rest.ensures.same;
-      only = OnlyReads-trans c.groups.invariant.only (rw c.groups.invariant.same.slot at c.in_ok-rest.ensures.only);
+      hints = reading_more c.args.form c.args.bound c.args.reader.now c.tokens.reader c.next_token.new.reader (g.D.Desk.outside c.args.desk.now) (g.D.Desk.outside c.tokens.desk)
+          (g.D.Desk.outside c.next_token.new.desk) c.tokens.hints c.add.new.self c.in_ok-token.token c.in-Number.x c.tokens.invariant.hints
+          (c.in_ok-token.ensures.token 2 1 (omega arith)) c.in-Number.is some within more;
+      small = small (omega (arith, size, within, c.requires.bound)) c.tokens.invariant.small;
+      same = IsSameReader-trans c.tokens.invariant.same c.in_ok-token.ensures.same;
+      only = OnlyReads-trans c.tokens.invariant.only (rw c.tokens.invariant.same.slot at c.in_ok-token.ensures.only);
     }

@@ -3,5 +3,5 @@ use Rattle.sr_model.specs.Writing.{groups_written}
 use Rattle.sr_lemma.specs.Written.{written_numbers}
 use Rattle.sr_lsr.proofs.write.put_groups.Given as goal
 
-abbrev pub invariant-loop-group : goal.invariant-loop-group
-invariant-loop-group l = l.out ≡ l.fn.out ++ written_numbers l.form (groups_written (take l.group-index l.groups))
+abbrev pub invariant-loop-i : goal.invariant-loop-i
+invariant-loop-i l = l.out ≡ l.fn.out ++ written_numbers l.form (groups_written (take l.i l.groups))
