@@ -8,10 +8,10 @@ ghost use Rattle.sr_check.specs.Indexing.{place_from, IsClear, IsWithin, IsIndex
 use crate::live::LiveClauses;
 use crate::pages::Table;
 use sr_base::NoMemory;
-use sr_wit::Group;
+use sr_wit::GroupList;
 
 /// Leads from each live clause to its first group.
-pub fn build(index: &mut Table, live: &LiveClauses, groups: &[Group]) -> Result<(), NoMemory>
+pub fn build(index: &mut Table, live: &LiveClauses, groups: &GroupList) -> Result<(), NoMemory>
     requires { IsClear index.old }
     ensures ok { OnOk result (IsIndex index.new live.now groups.now) }
     ensures within { IsWithin index.new groups.now }
@@ -19,8 +19,8 @@ pub fn build(index: &mut Table, live: &LiveClauses, groups: &[Group]) -> Result<
     if groups.len() >= u32::MAX as usize {
         return Err(NoMemory);
     }
-    for (i, group) in groups.iter().enumerate() {
-        note(index, live, group.id(), i as u32 + 1)?;
+    for i in 0..groups.len() {
+        note(index, live, groups.id(i), i as u32 + 1)?;
     }
     Ok(())
 }
@@ -37,17 +37,17 @@ fn note(index: &mut Table, live: &LiveClauses, number: u32, place: u32) -> Resul
 }
 
 /// Unsets the numbers of the groups.
-pub fn forget(index: &mut Table, groups: &[Group])
+pub fn forget(index: &mut Table, groups: &GroupList)
     requires { IsWithin index.old groups.now }
     ensures { IsClear index.new }
 {
-    for group in groups {
-        index.unset(group.id());
+    for i in 0..groups.len() {
+        index.unset(groups.id(i));
     }
 }
 
 /// The hints for a clause: those of its first group, to which the table leads, or none.
-pub fn hints_for<'a>(index: &Table, groups: &'a [Group], number: u32) -> &'a [u32]
+pub fn hints_for<'a>(index: &Table, groups: &'a GroupList, number: u32) -> &'a [u32]
     requires { entry index.now number ≡ place_from 1 groups.now number }
     ensures { result.now ≡ group_of groups.now number }
 {
@@ -55,5 +55,5 @@ pub fn hints_for<'a>(index: &Table, groups: &'a [Group], number: u32) -> &'a [u3
     if place == 0 {
         return &[];
     }
-    groups[place - 1].hints().as_slice()
+    groups.hints(place - 1)
 }

@@ -20,7 +20,7 @@ use crate::occurrences::Occurrences;
 use crate::pages::Table;
 use crate::witness::{Trial, meet_witness};
 use sr_base::{Cause, Lit, LitList, NoMemory};
-use sr_wit::{Group, Step, Subst};
+use sr_wit::{GroupList, Step, Subst};
 use std::alloc::Global;
 
 /// How a step is met.
@@ -87,7 +87,7 @@ fn meet_over(
     let lits = step.clause().lits();
     let hints = step.prefix().as_slice();
     match refute(strict, live, &mut scratch.marks, lits, hints)? {
-        End::Closed => Ok(refuse_groups(strict, step.groups().as_slice())),
+        End::Closed => Ok(refuse_groups(strict, step.groups())),
         End::Faulty(cause) => Ok(Meet::Unmet(cause)),
         End::Unclosed => match lits {
             [] => Ok(Meet::Unmet(Cause::Unclosed)),
@@ -97,13 +97,13 @@ fn meet_over(
 }
 
 /// Strict checking refuses the groups of a step that closes by its prefix.
-fn refuse_groups(strict: bool, groups: &[Group]) -> Meet
+fn refuse_groups(strict: bool, groups: &GroupList) -> Meet
     ensures { no_groups strict groups.now ≡ meeting_of result }
 {
-    match groups {
-        [first, ..] if strict => Meet::Unmet(Cause::GroupSpare(first.id())),
-        _ => Meet::Met,
+    if !strict || groups.len() == 0 {
+        return Meet::Met;
     }
+    Meet::Unmet(Cause::GroupSpare(groups.id(0)))
 }
 
 /// How a step is met by its witness, from the literals that its prefix reached.
@@ -125,7 +125,7 @@ fn meet_by_witness(
     ensures room { scratch.old.marks.room ≤ scratch.new.marks.room }
     ensures lists { KeepsListed scratch.new.lists live.now }
 {
-    let groups = step.groups().as_slice();
+    let groups = step.groups();
     let met = match build(&mut scratch.index, live, groups) {
         Ok(()) => try_witness(strict, live, scratch, step, pivot),
         Err(NoMemory) => Err(NoMemory),
@@ -153,7 +153,7 @@ fn try_witness(
     ensures room { scratch.old.marks.room ≤ scratch.new.marks.room }
     ensures lists { KeepsListed scratch.new.lists live.now }
 {
-    let groups = step.groups().as_slice();
+    let groups = step.groups();
     match step.witness() {
         Some(subst) => try_subst(strict, live, scratch, subst, groups),
         None => {
@@ -169,7 +169,7 @@ fn try_subst(
     live: &LiveClauses,
     scratch: &mut Scratch,
     subst: &Subst,
-    groups: &[Group],
+    groups: &GroupList,
 ) -> Result<Meet, NoMemory>
     requires index { IsIndex scratch.old.index live.now groups.now }
     requires no_pair { has_pair scratch.old.marks.lits ≡ false }

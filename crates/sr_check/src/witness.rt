@@ -17,7 +17,7 @@ use crate::meeting::Meet;
 use crate::number_set::NumberSet;
 use crate::pages::Table;
 use sr_base::{Cause, Lit, LitList, NoMemory};
-use sr_wit::{Group, Reduced, Subst};
+use sr_wit::{GroupList, Reduced, Subst};
 
 /// A witness, what it is tried on, and the groups of hints with the table that leads to them.
 #[derive(Clone, Copy)]
@@ -25,7 +25,7 @@ pub struct Trial<'a> {
     pub strict: bool,
     pub live: &'a LiveClauses<'a>,
     pub subst: &'a Subst,
-    pub groups: &'a [Group],
+    pub groups: &'a GroupList,
     pub index: &'a Table,
 }
 
@@ -62,8 +62,8 @@ fn fit_groups(trial: &Trial, marks: &mut Marks, left: &mut LitList) -> Result<Me
     if !trial.strict {
         return Ok(Meet::Met);
     }
-    for (i, group) in trial.groups.iter().enumerate() {
-        let number = group.id();
+    for i in 0..trial.groups.len() {
+        let number = trial.groups.id(i);
         let Some(lits) = trial.live.get(number) else {
             return Ok(Meet::Unmet(Cause::GroupSpare(number)));
         };

@@ -4,5 +4,5 @@ use Rattle.sr_check.specs.Pages.{entry}
 use Rattle.sr_check.specs.Indexing.{numbers}
 use Rattle.sr_check.proofs.groups.forget.Given as goal
 
-abbrev pub invariant-loop-group : goal.invariant-loop-group
-invariant-loop-group l = (n : ℕ) → holds_number n (numbers (drop l.group-index l.groups)) ≡ false → entry l.index n ≡ 0
+abbrev pub invariant-loop-i : goal.invariant-loop-i
+invariant-loop-i l = (n : ℕ) → holds_number n (numbers (drop l.i l.groups)) ≡ false → entry l.index n ≡ 0

@@ -1,4 +1,4 @@
-use Rattle.std.proofs.Common.{◌≡◌, ◌∙◌, arith, sym, ap, get_or}
+use Rattle.std.proofs.Common.{◌≡◌, ◌∙◌, [], arith, sym, ap, get_or}
 use Rattle.sr_check.specs.Indexing.{place_from}
 use Rattle.sr_check.proofs.Grouping.{IsPlace, group_none, group_some}
 use Rattle.sr_check.proofs.groups.hints_for.Goals as goal
@@ -6,8 +6,8 @@ use Rattle.sr_check.proofs.groups.hints_for.Goals as goal
 pub returns-then-place-eq0 : goal.returns-then-place-eq0
 returns-then-place-eq0 c = sym (group_none 1 c.args.groups.now c.args.number (omega arith) (sym c.requires ∙ sym c.get-place.ensures ∙ c.if-place-eq0.true))
 
-pub bounds-groups-place : goal.bounds-groups-place
-bounds-groups-place c =
+pub hints-requires : goal.hints-requires
+hints-requires c =
     let is : place_from 1 c.args.groups.now c.args.number ≡ c.get-place.result = sym c.requires ∙ sym c.get-place.ensures in
     let p : IsPlace 1 c.args.groups.now c.args.number c.get-place.result = group_some 1 c.args.groups.now c.args.number c.get-place.result is (λ z. absurd (omega (arith, c.if-place-eq0.false))) in
     omega (arith, p.is, p.within)
@@ -16,5 +16,4 @@ pub returns : goal.returns
 returns c =
     let is : place_from 1 c.args.groups.now c.args.number ≡ c.get-place.result = sym c.requires ∙ sym c.get-place.ensures in
     let p : IsPlace 1 c.args.groups.now c.args.number c.get-place.result = group_some 1 c.args.groups.now c.args.number c.get-place.result is (λ z. absurd (omega (arith, c.if-place-eq0.false))) in
-    c.as_slice.ensures ∙ c.hints.ensures ∙ ap (λ g. g.1) c.index-groups-place.is
-    ∙ ap (λ k. (get_or c.args.groups.now k c.index-groups-place.result).1) (omega (arith, p.is)) ∙ p.hints c.index-groups-place.result
+    c.hints.ensures ∙ ap (λ k. (get_or c.args.groups.now k (0, [])).1) (omega (arith, p.is)) ∙ p.hints (0, [])
