@@ -16,7 +16,7 @@ use sr_desk::{ByteReader, Desk};
 use sr_emit::Outcome;
 use sr_lsr::next_item;
 use sr_model::Verdict;
-use sr_wit::{Group, InFault, LsrItem, Step};
+use sr_wit::{GroupList, InFault, LsrItem, Step};
 use std::alloc::Global;
 
 /// The steps that were met, and their hints.
@@ -46,16 +46,16 @@ impl Tally {
 fn hints_of(step: &Step) -> Option<u64>
     ensures { CountsHints step.now result }
 {
-    let groups = hints_in(step.groups().as_slice())?;
+    let groups = hints_in(step.groups())?;
     groups.checked_add(step.prefix().as_slice().len() as u64)
 }
 
-fn hints_in(groups: &[Group]) -> Option<u64>
+fn hints_in(groups: &GroupList) -> Option<u64>
     ensures { CountsGroups groups.now result }
 {
     let mut hints: u64 = 0;
-    for group in groups {
-        hints = hints.checked_add(group.hints().as_slice().len() as u64)?;
+    for i in 0..groups.len() {
+        hints = hints.checked_add(groups.hints(i).len() as u64)?;
     }
     Some(hints)
 }

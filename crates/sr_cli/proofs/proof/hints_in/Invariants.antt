@@ -3,5 +3,5 @@ use Rattle.std.specs.Prelude.{sum_by}
 use Rattle.sr_cli.specs.Check.{group_hints}
 use Rattle.sr_cli.proofs.proof.hints_in.Given as goal
 
-abbrev pub invariant-loop-group : goal.invariant-loop-group
-invariant-loop-group l = l.hints ≡ sum_by group_hints (take l.group-index l.groups)
+abbrev pub invariant-loop-i : goal.invariant-loop-i
+invariant-loop-i l = l.hints ≡ sum_by group_hints (take l.i l.groups)
