@@ -5,7 +5,7 @@ ghost use Rattle.sr_wit.specs.Formulas.{UsesUpTo};
 use crate::Checker;
 use sr_base::{Clause, IdList, Items, Limits, Lit};
 use sr_model::Verdict;
-use sr_wit::{Formula, LsrItem, Step};
+use sr_wit::{Formula, GroupList, LsrItem, Step};
 use std::alloc::Global;
 use std::test::Fail;
 
@@ -41,7 +41,7 @@ fn empty_clause(alloc: Global, hints: &[u32]) -> Result<LsrItem, Fail> {
         prefix.push(*hint)?;
     }
     let clause = Clause::from_lits(alloc, &[])?;
-    let step = Step::new(3, clause, None, prefix, Items::new(alloc)).ok_or("no step")?;
+    let step = Step::new(3, clause, None, prefix, GroupList::new(alloc)).ok_or("no step")?;
     Ok(LsrItem::Step(step))
 }
 
