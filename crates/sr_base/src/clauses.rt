@@ -45,6 +45,18 @@ impl Clause {
         Ok(Clause { lits })
     }
 
+    /// The same of a list, which is taken over where it is short and has no repeats.
+    #[tactic(auto, using(crate::proofs::Plain::distinct_same))]
+    pub fn from_list(alloc: Global, lits: LitList) -> Result<Clause, NoMemory>
+        ensures { IfOk result (λ c. c ≡ distinct lits) }
+    {
+        if is_short_clause(lits.as_slice()) {
+            return Ok(Clause { lits });
+        }
+        let lits = distinct_by_codes(alloc, lits.as_slice())?;
+        Ok(Clause { lits })
+    }
+
     /// The literals in order.
     pub fn lits(&self) -> &[Lit]
         ensures value { result.now ≡ self.now }

@@ -35,6 +35,7 @@ impl Model for Lit {
 
 impl Lit {
     /// The literal that is written as this number; none for 0 and for a variable above [`MOST_VARS`].
+    #[inline]
     pub fn new(x: i64) -> Option<Lit>
         ensures none { IsNone result ↔ ((x ≡ pos 0) ⊎ (MOST_VARS < unsigned_abs x)) }
         ensures some { IfSome result (λ l. l ≡ literal_of x) }
@@ -45,6 +46,18 @@ impl Lit {
         }
         let var = x.unsigned_abs() as u32;
         let code = if x < 0 { 2 * var + 1 } else { 2 * var };
+        Some(Lit { code })
+    }
+
+    /// The literal of this code; none for a code below 2, and for a variable above [`MOST_VARS`].
+    #[inline]
+    pub fn from_code(code: u32) -> Option<Lit>
+        ensures none { IsNone result ↔ ((code < 2) ⊎ (2 * MOST_VARS + 1 < code)) }
+        ensures some { IfSome result (λ l. literal_code l ≡ code) }
+    {
+        if code < 2 || code > 2 * MOST_VARS + 1 {
+            return None;
+        }
         Some(Lit { code })
     }
 
