@@ -5,6 +5,7 @@ ghost use Rattle.sr_model.specs.Substitution.{substitution, image, reduction};
 ghost use Rattle.sr_model.specs.Witnesses.{parts_of, twice_of, witness_by};
 ghost use Rattle.sr_wit.specs.Reductions.{reduced_of, HasNoneBeside};
 ghost use Rattle.sr_wit.specs.Kept.{IsKept};
+ghost use Rattle.sr_wit.specs.Tables.{HoldsSubst, witness_with};
 ghost use Rattle.sr_wit.specs.Faults.{TellsTwice};
 
 use crate::part_table::PartTable;
@@ -40,13 +41,21 @@ impl From<NoMemory> for SubstFault {
     }
 }
 
-/// A substitution: the pivot and other literals become true, and variables are mapped to literals.
+/// What is written beside the pivot, and the images by their variables.
 #[derive(Drop)]
-pub struct Subst {
-    pivot: Lit,
+struct Written {
     assigned: Vec<Lit>,
     maps: Vec<(Lit, Lit)>,
     table: PartTable,
+}
+
+/// A substitution: the pivot and other literals become true, and variables are mapped to literals.
+///
+/// It is small, so that what holds one is moved at little cost.
+#[derive(Drop)]
+pub struct Subst {
+    pivot: Lit,
+    written: Box<Written>,
 }
 
 impl Model for Subst {
@@ -55,9 +64,20 @@ impl Model for Subst {
 
     ghost Value = { Witness };
 
-    ghost view = { λ s. witness_with s.pivot s.assigned.items s.maps.items };
+    ghost view = { λ s. witness_with s.pivot s.written.value.assigned.items s.written.value.maps.items };
 
-    ghost invariant = { λ s. HoldsSubst (witness_with s.pivot s.assigned.items s.maps.items) s.table };
+    ghost invariant = { λ s. HoldsSubst (witness_with s.pivot s.written.value.assigned.items s.written.value.maps.items) s.written.value.table };
+}
+
+/// The substitution of its parts.
+fn substitution_of(alloc: Global, pivot: Lit, written: Written) -> Result<Subst, NoMemory>
+    requires { HoldsSubst (witness_with pivot written.assigned.items written.maps.items) written.table }
+    ensures { IfOk result (λ s. s ≡ witness_with pivot written.assigned.items written.maps.items) }
+{
+    match Box::new(alloc, written) {
+        Ok(written) => Ok(Subst { pivot, written }),
+        Err(_) => Err(NoMemory),
+    }
 }
 
 impl Subst {
@@ -83,12 +103,13 @@ impl Subst {
                 return Err(SubstFault::NoMemory);
             };
             let maps = all_maps(alloc, maps)?;
-            return Ok(Subst {
-                pivot,
+            let table = PartTable::new(alloc, table)?;
+            let written = Written {
                 assigned: kept,
                 maps,
-                table: PartTable::new(alloc, table)?,
-            });
+                table,
+            };
+            return Ok(substitution_of(alloc, pivot, written)?);
         }
         let parts = written_parts(alloc, pivot, assigned, maps)?;
         if let Some(var) = first_twice(alloc, &parts)? {
@@ -96,12 +117,13 @@ impl Subst {
         }
         let assigned = other_literals(alloc, pivot, assigned)?;
         let maps = first_maps(alloc, maps)?;
-        Ok(Subst {
-            pivot,
+        let table = PartTable::new(alloc, table)?;
+        let written = Written {
             assigned,
             maps,
-            table: PartTable::new(alloc, table)?,
-        })
+            table,
+        };
+        Ok(substitution_of(alloc, pivot, written)?)
     }
 
     /// The substitution whose one effect is to make the pivot true.
@@ -112,19 +134,20 @@ impl Subst {
         let Ok(()) = table.push(made_true(pivot)) else {
             return Err(NoMemory);
         };
-        Ok(Subst {
-            pivot,
+        let table = PartTable::new(alloc, table)?;
+        let written = Written {
             assigned: Vec::new(alloc),
             maps: Vec::new(alloc),
-            table: PartTable::new(alloc, table)?,
-        })
+            table,
+        };
+        substitution_of(alloc, pivot, written)
     }
 
     /// The image of a literal.
     pub fn image(&self, l: Lit) -> Image
         ensures { result ≡ image (substitution self.now) l }
     {
-        match self.table.find(l.var()) {
+        match self.written.table.find(l.var()) {
             None => Image::To(l),
             Some(image) => {
                 if is_positive(l) {
@@ -149,14 +172,14 @@ impl Subst {
     pub fn assigned(&self) -> &[Lit]
         ensures { result.now ≡ self.now.assigned }
     {
-        &self.assigned
+        &self.written.assigned
     }
 
     /// Variables, each with the literal that is its image.
     pub fn maps(&self) -> &[(Lit, Lit)]
         ensures { result.now ≡ self.now.maps }
     {
-        &self.maps
+        &self.written.maps
     }
 
     /// What the substitution makes of a clause. A clause that is left has its literals in `out`, each where
@@ -166,7 +189,7 @@ impl Subst {
         ensures none_beside { IfOk result (λ r. HasNoneBeside r out.new) }
         ensures err { OnErr result (out.new ≡ []) }
     {
-        let alloc = self.table.alloc();
+        let alloc = self.written.table.alloc();
         let images = collect_images(self, lits, out);
         let reduced = match images {
             Ok(Reduced::Left) => keep_distinct(alloc, out),

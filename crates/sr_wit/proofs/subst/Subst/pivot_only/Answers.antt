@@ -7,5 +7,5 @@ use Rattle.sr_wit.proofs.subst.Subst.pivot_only.Goals as goal
 alone : (p : Literal) → HoldsSubst (witness_with p [] []) (made_true p ∷ [])
 alone p = search rules
 
-pub invariant_of-result : goal.invariant_of-result
-invariant_of-result c = rw (c.in_ok-new.ensures, c.new.ensures.items, c.new-2.ensures.items, c.in-Ok.ensures.items, c.new-table.ensures.items, c.made_true.ensures) (alone c.args.pivot)
+pub substitution_of-requires : goal.substitution_of-requires
+substitution_of-requires c = rw (c.in_ok-table.ensures, c.new-2.ensures.items, c.new-3.ensures.items, c.in-Ok.ensures.items, c.new-table.ensures.items, c.made_true.ensures) (alone c.args.pivot)
