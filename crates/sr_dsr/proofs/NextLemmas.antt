@@ -12,10 +12,10 @@ use Rattle.sr_desk.specs.Next.{IsSameReader}
 use Rattle.sr_model.specs.declared.tokens.Token.{Token}
 use Rattle.sr_model.specs.declared.tokens.Word.{Word}
 use Rattle.sr_model.specs.declared.tokens.Word.TheVariants as word
-use Rattle.sr_model.specs.Texts.{Texts, finished, stopped, over}
+use Rattle.sr_model.specs.Texts.{Texts, stopped, over}
 use Rattle.sr_model.specs.Binary.{open_after}
 use Rattle.sr_model.specs.Dsr.{LineRead, misspells, passes, line_at, binary_line_at, line_in}
-use Rattle.sr_scan.specs.Left.{StandsFirst, Advances}
+use Rattle.sr_scan.specs.Left.{Advances}
 use Rattle.sr_wit.specs.declared.fault.InFault.{InFault}
 use Rattle.sr_wit.specs.declared.fault.InFault.TheVariants.{Text, Limit, Source, NoMemory}
 use Rattle.sr_lemma.specs.declared.lemma.DsrLine.{DsrLine}

@@ -1,7 +1,6 @@
 -- Lines by the parts that are written.
-use Rattle.std.proofs.Common.{◌≡◌, ◌∙◌, ℕ, ℤ, sym, ap, refl, true, false, List, [], ◌∷◌, ◌++◌, map, Option, None, append_assoc}
+use Rattle.std.proofs.Common.{◌≡◌, ◌∙◌, ℕ, sym, ap, refl, true, false, List, [], ◌∷◌, ◌++◌, map, Option, None, append_assoc}
 use Rattle.std.specs.Prelude.{codes, Result, Ok, Err, IfOk}
-use Rattle.std.specs.Fmt.{signed_decimal}
 use Rattle.std.proofs.lemmas.List.{append-nil}
 use Rattle.sr_base.specs.Literal.{Literal, number}
 use Rattle.sr_base.specs.declared.names.Form.{Form}

@@ -33,7 +33,7 @@ fn read_lemma<D: Desk>(
     ensures cause { HasInCause reader.old.slot (D.outside desk.old) (D.outside desk.new) result }
 {
     let literals = read_literals(alloc, form, limits.vars(), first, reader, desk)?;
-    let lemma = Lemma::from_literals(alloc, literals.lits.as_slice(), literals.end)?;
+    let lemma = Lemma::from_literals(alloc, literals.lits, literals.end)?;
     Ok(DsrLine::Add(lemma))
 }
 
@@ -54,7 +54,7 @@ fn read_deletion<D: Desk>(
 {
     let first = next_token(form, false, reader, desk)?;
     let literals = read_literals(alloc, form, limits.vars(), first, reader, desk)?;
-    match Clause::from_lits(alloc, literals.lits.as_slice()) {
+    match Clause::from_list(alloc, literals.lits) {
         Ok(clause) => Ok(DsrLine::Del(clause)),
         Err(_) => Err(InFault::NoMemory),
     }

@@ -4,7 +4,7 @@ ghost use Rattle.sr_model.specs.Dsr.{LineHasPivot, lemma_line};
 ghost use Rattle.sr_lemma.specs.Lines.{lemma_told, GivesLemma};
 
 use crate::witnesses::{find_clause, find_witness};
-use sr_base::{Clause, Lit};
+use sr_base::{Clause, LitList};
 use sr_wit::{InFault, Subst};
 use std::alloc::Global;
 
@@ -31,11 +31,11 @@ impl Lemma {
     ///
     /// `Text` with this place, that of the `0` that ends the literals: `OddMap` where a literal of the pairs
     /// is left over, or else `Twice` where a variable gets two different images.
-    pub fn from_literals(alloc: Global, lits: &[Lit], end: u64) -> Result<Lemma, InFault>
-        ensures lemma { GivesLemma lits.now end result }
+    pub fn from_literals(alloc: Global, lits: LitList, end: u64) -> Result<Lemma, InFault>
+        ensures lemma { GivesLemma lits end result }
         ensures pivot { IfOk result (λ l. LineHasPivot (lemma_line (lemma_told l))) }
     {
-        let witness = find_witness(alloc, lits, end)?;
+        let witness = find_witness(alloc, lits.as_slice(), end)?;
         let Ok(clause) = find_clause(alloc, lits) else {
             return Err(InFault::NoMemory);
         };

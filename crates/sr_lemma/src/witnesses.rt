@@ -5,7 +5,7 @@ ghost use Rattle.sr_base.specs.Literal.{distinct};
 ghost use Rattle.sr_model.specs.Witnesses.{before, pairs, clause_of_literals};
 ghost use Rattle.sr_lemma.specs.Parts.{GivesMaps, GivesSubst, GivesWitness, FindsWitness};
 
-use sr_base::{Clause, Lit, NoMemory, TextKind};
+use sr_base::{Clause, Lit, LitList, NoMemory, TextKind};
 use sr_wit::{InFault, Subst, SubstFault};
 use std::alloc::Global;
 
@@ -119,9 +119,11 @@ fn clause_length(lits: &[Lit]) -> usize
     }
 }
 
-/// The clause among all literals of a lemma or a step.
-pub fn find_clause(alloc: Global, lits: &[Lit]) -> Result<Clause, NoMemory>
-    ensures { IfOk result (λ c. c ≡ clause_of_literals lits.now) }
+/// The clause among all literals of a lemma or a step. The list is cut to it and taken over, as [`Clause::from_list`] says.
+pub fn find_clause(alloc: Global, mut lits: LitList) -> Result<Clause, NoMemory>
+    ensures { IfOk result (λ c. c ≡ clause_of_literals lits) }
 {
-    Clause::from_lits(alloc, &lits[..clause_length(lits)])
+    let len = clause_length(lits.as_slice());
+    lits.cut(len);
+    Clause::from_list(alloc, lits)
 }

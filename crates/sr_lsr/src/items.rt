@@ -42,7 +42,7 @@ fn read_step<D: Desk>(
 {
     let literals = read_literals(alloc, form, limits.vars(), first, reader, desk)?;
     let hints = read_hints(alloc, form, limits.ids(), reader, desk)?;
-    let step = make_step(alloc, id, literals.lits.as_slice(), literals.end, hints)?;
+    let step = make_step(alloc, id, literals.lits, literals.end, hints)?;
     Ok(LsrItem::Step(step))
 }
 

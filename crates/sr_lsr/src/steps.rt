@@ -4,7 +4,7 @@ ghost use Rattle.sr_model.specs.Meeting.{HasPivot};
 ghost use Rattle.sr_lsr.specs.Steps.{GivesStep};
 
 use crate::hints::Hints;
-use sr_base::Lit;
+use sr_base::LitList;
 use sr_lemma::{find_clause, find_witness};
 use sr_wit::{InFault, Step};
 use std::alloc::Global;
@@ -14,14 +14,14 @@ use std::alloc::Global;
 pub(crate) fn make_step(
     alloc: Global,
     id: u32,
-    lits: &[Lit],
+    lits: LitList,
     end: u64,
     hints: Hints,
 ) -> Result<Step, InFault>
-    ensures step { GivesStep id lits.now end hints.prefix hints.groups result }
+    ensures step { GivesStep id lits end hints.prefix hints.groups result }
     ensures pivot { IfOk result HasPivot }
 {
-    let witness = find_witness(alloc, lits, end)?;
+    let witness = find_witness(alloc, lits.as_slice(), end)?;
     let Ok(clause) = find_clause(alloc, lits) else {
         return Err(InFault::NoMemory);
     };

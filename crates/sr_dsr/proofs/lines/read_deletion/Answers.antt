@@ -1,6 +1,5 @@
-use Rattle.std.proofs.Common.{◌∙◌, ap, arith}
+use Rattle.std.proofs.Common.{arith}
 use Rattle.std.proofs.lemmas.Result.{err_from_is_err_and}
-use Rattle.sr_base.specs.Literal.{distinct}
 use Rattle.sr_lemma.specs.Left.{tokens_left}
 use Rattle.sr_dsr.proofs.LineLemmas.{deletion_stops, deletion_fails, deletion_read}
 use Rattle.sr_dsr.proofs.lines.read_deletion.Goals as goal
@@ -22,4 +21,4 @@ pub returns-in-Ok-clause-line : goal.returns-in-Ok-clause-line
 returns-in-Ok-clause-line g c =
     deletion_read c.args.form c.args.limits.now c.vars.result c.in_ok-first.first c.args.reader.now c.next_token.new.reader c.read_literals.new.reader (g.D.Desk.outside c.args.desk.now)
     (g.D.Desk.outside c.next_token.new.desk) (g.D.Desk.outside c.read_literals.new.desk) c.in_ok-literals.literals.lits c.in-Ok.clause c.in_ok-literals.literals.end
-    c.vars.ensures.value c.in_ok-literals.ensures.named (c.in_ok-first.ensures.token 1 1 (omega arith)) (c.in_ok-literals.ensures.literals 1 0) (c.in-Ok.ensures ∙ ap distinct c.as_slice.ensures)
+    c.vars.ensures.value c.in_ok-literals.ensures.named (c.in_ok-first.ensures.token 1 1 (omega arith)) (c.in_ok-literals.ensures.literals 1 0) c.in-Ok.ensures

@@ -1,4 +1,4 @@
-use Rattle.std.proofs.Common.{Err, subst}
+use Rattle.std.proofs.Common.{Err}
 use Rattle.std.proofs.lemmas.Result.{err_from_is_err_and}
 use Rattle.sr_lemma.specs.Left.{tokens_left}
 use Rattle.sr_lemma.specs.Lines.{GivesLemma}
@@ -15,7 +15,7 @@ pub returns-in_err-lemma-clause-line : goal.returns-in_err-lemma-clause-line
 returns-in_err-lemma-clause-line g c =
     let p = err_from_is_err_and c.from_residual-in_err-lemma.result c.from_residual-in_err-lemma.ensures.1 in
     let fault : GivesLemma c.in_ok-literals.literals.lits c.in_ok-literals.literals.end (Err c.in_err-lemma.field-0.0) =
-    subst (λ ls. GivesLemma ls c.in_ok-literals.literals.end (Err c.in_err-lemma.field-0.0)) c.as_slice.ensures c.in_err-lemma.ensures.lemma in
+    c.in_err-lemma.ensures.lemma in
     rw (p.1, p.2) (lemma_fails c.args.form c.args.limits.now c.vars.result c.args.first c.args.reader.now c.read_literals.new.reader (g.D.Desk.outside c.args.desk.now) (g.D.Desk.outside c.read_literals.new.desk)
     c.in_ok-literals.literals.lits c.in_ok-literals.literals.end (tokens_left c.args.form 1 0 c.read_literals.new.reader (g.D.Desk.outside c.read_literals.new.desk)) c.in_err-lemma.field-0.0
     c.vars.ensures.value c.in_ok-literals.ensures.named (c.in_ok-literals.ensures.literals 1 0) fault)

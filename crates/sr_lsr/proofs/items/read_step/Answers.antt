@@ -1,7 +1,5 @@
-use Rattle.std.proofs.Common.{Ok, Err, subst}
 use Rattle.std.proofs.lemmas.Result.{err_from_is_err_and}
 use Rattle.sr_lemma.specs.Left.{tokens_left}
-use Rattle.sr_lsr.specs.Steps.{GivesStep}
 use Rattle.sr_lsr.proofs.StepLemmas.{step_stops, step_hints_stop, step_fails, step_read}
 use Rattle.sr_lsr.proofs.items.read_step.Goals as goal
 
@@ -22,7 +20,7 @@ returns-in_err-hints-clause-item g c =
 pub returns-in_err-step-clause-item : goal.returns-in_err-step-clause-item
 returns-in_err-step-clause-item g c =
     let p = err_from_is_err_and c.from_residual-in_err-step.result c.from_residual-in_err-step.ensures.1 in
-    let fault = subst (λ ls. GivesStep c.args.id ls c.in_ok-literals.literals.end c.in_ok-hints.hints.prefix c.in_ok-hints.hints.groups (Err c.in_err-step.field-0.0)) c.as_slice.ensures c.in_err-step.ensures.step in
+    let fault = c.in_err-step.ensures.step in
     rw (p.1, p.2) (step_fails c.args.form c.args.limits.now c.vars.result c.ids.result c.args.id c.args.first c.args.reader.now c.read_literals.new.reader (g.D.Desk.outside c.args.desk.now) (g.D.Desk.outside c.read_literals.new.desk)
     c.in_ok-literals.literals.lits c.in_ok-literals.literals.end c.in_ok-hints.hints.prefix c.in_ok-hints.hints.groups (tokens_left c.args.form 2 0 c.read_hints.new.reader (g.D.Desk.outside c.read_hints.new.desk))
     (tokens_left c.args.form 2 0 c.read_hints.new.reader (g.D.Desk.outside c.read_hints.new.desk)) c.in_err-step.field-0.0 c.vars.ensures.value c.ids.ensures.value
@@ -30,7 +28,7 @@ returns-in_err-step-clause-item g c =
 
 pub returns-clause-item : goal.returns-clause-item
 returns-clause-item g c =
-    let made = subst (λ ls. GivesStep c.args.id ls c.in_ok-literals.literals.end c.in_ok-hints.hints.prefix c.in_ok-hints.hints.groups (Ok c.in_ok-step.step)) c.as_slice.ensures c.in_ok-step.ensures.step in
+    let made = c.in_ok-step.ensures.step in
     step_read c.args.form c.args.limits.now c.vars.result c.ids.result c.args.id c.args.first c.args.reader.now c.read_literals.new.reader (g.D.Desk.outside c.args.desk.now) (g.D.Desk.outside c.read_literals.new.desk)
     c.in_ok-literals.literals.lits c.in_ok-literals.literals.end c.in_ok-hints.hints.prefix c.in_ok-hints.hints.groups (tokens_left c.args.form 2 0 c.read_hints.new.reader (g.D.Desk.outside c.read_hints.new.desk))
     c.in_ok-step.step c.vars.ensures.value c.ids.ensures.value
