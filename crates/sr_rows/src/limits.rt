@@ -1,6 +1,7 @@
 // Limits of one's own.
 use crate::case::{Case, FOUR_PROOF, answers};
 use sr_base::Limits;
+use std::alloc::Global;
 use std::test::Fail;
 
 const VARS: u32 = 16_777_215;
@@ -21,6 +22,31 @@ fn cells_are_counted_for_formula_and_proof(rt: HostRuntime) -> Result<(), Fail> 
     ] {
         let limits = Limits::new(VARS, IDS, cells, BYTES).ok_or("no limits")?;
         answers(rt.alloc(), &limits, &Case::four(FOUR_PROOF, status, report))?;
+    }
+    Ok(())
+}
+
+/// A proof of `FOUR` that adds two thousand clauses and deletes each at once.
+fn proof_with_deletions(alloc: Global) -> Result<String, Fail> {
+    let mut proof = String::from_str(alloc, "5 2 0 1 2 0\n")?;
+    for n in 6..2006 {
+        let lines = format!(in alloc; "{n} 2 1 0 5 0\n{n} d {n} 0\n")?;
+        proof.push_str(lines.as_str())?;
+    }
+    proof.push_str("2006 0 5 3 4 0\n")?;
+    Ok(proof)
+}
+
+#[test]
+fn cells_of_deleted_clauses_are_free_again(rt: HostRuntime) -> Result<(), Fail> {
+    let alloc = rt.alloc();
+    let proof = proof_with_deletions(alloc)?;
+    for (cells, status, report) in [
+        (35, 0, "s VERIFIED UNSAT\n"),
+        (34, 4, "e limit proof cells\n"),
+    ] {
+        let limits = Limits::new(VARS, IDS, cells, BYTES).ok_or("no limits")?;
+        answers(alloc, &limits, &Case::four(proof.as_str(), status, report))?;
     }
     Ok(())
 }
