@@ -1,5 +1,6 @@
 pub mod BinaryStands
 pub mod FrontLemmas
 pub mod NumberLemmas
+pub mod RunLemmas
 pub mod SplitLemmas
 pub mod WriteLemmas

@@ -1,28 +1,34 @@
 -- What a token does to the hints of a step, and what a number does to its prefix and groups.
-use Rattle.std.proofs.Common.{◌≡◌, ◌∙◌, ℕ, ℤ, pos, negsuc, ◌+◌, ◌<◌, ◌≤◌, ◌≤ℤ◌, ◌<ℤ◌, refl, sym, ap, subst, List, [], ◌∷◌, ◌++◌, length, Option, Some, Ok, Err, arith}
-use Rattle.std.specs.Prelude.{nat_abs}
+use Rattle.std.proofs.Common.{◌≡◌, ◌≢◌, ◌∙◌, ℕ, zero, suc, ℤ, pos, negsuc, ◌+◌, ◌-◌, ◌/◌, ◌%◌, ◌^◌, ◌==◌, ◌<◌, ◌≤◌, ltb, Bool, true, false, refl, sym, ap, subst, List, [], ◌∷◌, ◌++◌, length, take, drop, Option, Some, Ok, Err, arith}
+use Rattle.std.specs.Prelude.{nat_abs, nat_lt, Result, OnOk, is_err}
+use Rattle.std.specs.Int.Signed.{lt_z}
 use Rattle.std.specs.List.{All}
-use Rattle.std.proofs.lemmas.Int.{ints}
+use Rattle.std.proofs.lemmas.Bool.Decides.{nat_tests}
+use Rattle.std.proofs.lemmas.List.{take_rest}
 use Rattle.std.proofs.lemmas.List.Elements.{All-cons, All-head, All-tail, All-push}
 use Rattle.sr_base.specs.declared.names.Form.{Form}
+use Rattle.sr_base.specs.declared.names.Form.TheVariants.{Binary}
 use Rattle.sr_base.specs.declared.names.LimitKind.TheVariants as limit
 use Rattle.sr_desk.specs.Outside.{Outside}
-use Rattle.sr_desk.specs.Reader.{Reader}
+use Rattle.sr_desk.specs.Reader.{Reader, buffered, skipped}
 use Rattle.sr_model.specs.declared.tokens.Word.TheVariants as word
 use Rattle.sr_model.specs.declared.tokens.Token.{Token}
 use Rattle.sr_model.specs.Texts.{Texts, next}
 use Rattle.sr_model.specs.Binary.{open_after}
 use Rattle.sr_model.specs.Meeting.{Group}
 use Rattle.sr_model.specs.Lsr.{numbers_after, by_number, prefix_of, groups_of}
+use Rattle.sr_scan.specs.Binary.{value_word}
 use Rattle.sr_wit.specs.declared.fault.InFault.{InFault}
 use Rattle.sr_wit.specs.declared.fault.InFault.TheVariants.{Text, Limit}
 use Rattle.sr_wit.specs.Groups.{with_hint}
 use Rattle.sr_lemma.specs.Left.{tokens_left}
 use Rattle.sr_lemma.specs.Reads.{misplaced, WhereTold, StopsNumbers, GivesFront}
 use Rattle.sr_lemma.proofs.NumberLemmas.{at_number, at_default, by_number_more, by_number_above, front_next, front_stop, open_number, open_zero}
+use Rattle.sr_lemma.proofs.RunLemmas.{run_front}
+use Rattle.sr_lsr.specs.declared.hints.LeadingHint.{LeadingHint}
 use Rattle.sr_lsr.specs.declared.hints.Hints.{Hints}
 use Rattle.sr_lsr.specs.Written.{IsSmall, IsSmallGroup}
-use Rattle.sr_lsr.specs.Told.{Spells, SpellsMore}
+use Rattle.sr_lsr.specs.Told.{signed, hint_number, Spells, SpellsMore, LeadsHint, GoesOn}
 use Rattle.sr_lsr.specs.Reads.{GivesHints}
 
 -- the hints that were read and what is left spell what stood at the front
@@ -99,6 +105,85 @@ reading_more form bound old mid new before between after hints hints' t x inv gi
       ),
     )
 
+-- the hints at hand were taken
+pub on_ok : {T E : Type 0} (result : Result T E) (P : Type 0) → is_err result ≡ false → OnOk result P → P
+on_ok (Ok x) P e h = h
+on_ok (Err k) P e h = absurd (cc)
+
+pub reading_ahead : {T E : Type 0} (result : Result T E) (form : Form) (bound : ℕ) (old mid new : Reader) (before between : Outside) (hints hints' : Hints) → is_err result ≡ false
+    → OnOk result ((o : Outside) (lists open_lists : ℕ) → 0 < open_lists → GoesOn bound (tokens_left form lists open_lists mid o) (tokens_left form lists open_lists new o) hints hints')
+    → Reading form bound old mid before between hints → Reading form bound old new before between hints'
+reading_ahead result form bound old mid new before between hints hints' went goes inv all h =
+    let s = inv all h in
+    let f = on_ok result _ went goes between 2 1 (omega arith) s.2.0 s.2.2 s.0 s.1 in
+    (f.0, f.1, (f.2.0, s.2.1 ∙ f.2.1, f.2.2))
+
+-- the number of a size
+pub signed-size : (b : Bool) (n : ℕ) → n ≢ 0 → nat_abs (signed b n) ≡ n
+signed-size true n some = omega arith
+signed-size false n some = refl
+
+pub signed-some : (b : Bool) (n : ℕ) → n ≢ 0 → signed b n ≡ pos 0 → ⊥
+signed-some true n some e = cc
+signed-some false n some e = some (ap nat_abs e)
+
+pub signed-is : (x : ℤ) (size : ℕ) → (x ≡ pos 0 → ⊥) → size ≡ nat_abs x → signed (lt_z x (pos 0)) size ≡ x
+signed-is (pos n) size some e = let up : ltb n 0 ≡ false = grind (arith, nat_tests) in rw up (ap pos e)
+signed-is (negsuc n) size some e = let down : size - 1 ≡ n = omega (arith, e) in ap negsuc down
+
+-- what a value of a binary file says
+pub value_says : (v size : ℕ) (b : Bool) → v < 2 ^ 63 → size ≡ v / 2 → size ≢ 0 → b ≡ (v % 2 == 1) → value_word v ≡ Ok (word.Number (signed b size))
+value_says v size b small half some odd = go (v % 2 == 0) refl
+  where
+    go : (t : Bool) → (v % 2 == 0) ≡ t → value_word v ≡ Ok (word.Number (signed b size))
+    go true t =
+        let fits : nat_lt v (2 ^ 64) ≡ true = grind (arith, nat_tests) in
+        let more : (v == 1) ≡ false = grind (arith, nat_tests) in
+        let even : (v % 2 == 1) ≡ false = grind (arith, nat_tests) in
+        rw (fits, more, t, odd, even, half) refl
+    go false t =
+        let fits : nat_lt v (2 ^ 64) ≡ true = grind (arith, nat_tests) in
+        let more : (v == 1) ≡ false = grind (arith, nat_tests) in
+        let one : (v % 2 == 1) ≡ true = grind (arith, nat_tests) in
+        rw (fits, more, t, odd, one, half) refl
+
+-- a run of hints at hand
+skipped-none : (r : Reader) → skipped r 0 ≡ r
+skipped-none r = let e : r.taken + 0 ≡ r.taken = omega arith in rw e refl
+
+pub run_none : (bound : ℕ) (r : Reader) (o : Outside) (lists open_lists : ℕ) (hints : Hints)
+    → GoesOn bound (tokens_left Binary lists open_lists r o) (tokens_left Binary lists open_lists (skipped r 0) o) hints hints
+run_none bound r o lists open_lists hints these s all h =
+    (all, ap (λ (r : Reader). tokens_left Binary lists open_lists r o) (skipped-none r) ∙ h, (these, refl, s))
+
+pub leads_at : (r : Reader) (bytes : List ℕ) (at bound : ℕ) (front : LeadingHint) → bytes ≡ buffered r → LeadsHint (take (length bytes - at) (drop at bytes)) bound front → LeadsHint (drop at (buffered r)) bound front
+leads_at r bytes at bound front is leads = rw is at (rw take_rest at leads)
+
+open-stays : (lists open_lists : ℕ) (x : ℤ) → 0 < open_lists → (x ≡ pos 0 → ⊥) → open_after lists open_lists (word.Number x) ≡ open_lists
+open-stays lists zero x some ne = absurd (omega arith)
+open-stays lists (suc k) x some ne = open_number lists k (word.Number x) x refl ne
+
+pub run_more : (bound : ℕ) (r : Reader) (at : ℕ) (front : LeadingHint) (first : Option Texts) (o : Outside) (lists open_lists : ℕ) (start hints hints' : Hints)
+    → LeadsHint (drop at (buffered r)) bound front → at ≤ length (buffered r) → 0 < open_lists → SpellsMore hints hints' (hint_number front.hint)
+    → GoesOn bound first (tokens_left Binary lists open_lists (skipped r at) o) start hints
+    → GoesOn bound first (tokens_left Binary lists open_lists (skipped r (at + front.len)) o) start hints'
+run_more bound r at front first o lists open_lists start hints hints' leads le some more inv these s all h =
+    let g = inv these s all h in
+    let x : ℤ = hint_number front.hint in
+    let t : Token = record { place = r.taken + at; word = word.Number x } in
+    let ne : x ≡ pos 0 → ⊥ = signed-some front.hint.begins_group front.hint.size leads.some in
+    let within : nat_abs x ≤ bound = rw (signed-size front.hint.begins_group front.hint.size leads.some) leads.within in
+    let f = run_front r at front.len leads.value t.word o lists open_lists leads.leads leads.says some le g.0 g.1 in (
+      f.0,
+      ap (λ (k : ℕ). tokens_left Binary lists k (skipped r (at + front.len)) o) (sym (open-stays lists open_lists x some ne)) ∙ f.2,
+      (
+        g.2.0 ++ x ∷ [],
+        g.2.1 ∙ ap (numbers_after limit.Ids bound g.2.0) f.1 ∙ at_number limit.Ids bound g.2.0 t x f.0 refl
+            ∙ by_number_more limit.Ids bound x t.place g.2.0 f.0 (numbers_after limit.Ids bound (g.2.0 ++ x ∷ []) f.0) ne within,
+        more g.2.0 g.2.2,
+      ),
+    )
+
 -- a negative number begins a group
 prefix_begin : (these : List ℤ) (n : ℕ) → prefix_of (these ++ negsuc n ∷ []) ≡ prefix_of these
 prefix_begin [] n = refl
@@ -110,17 +195,13 @@ groups_begin [] n = refl
 groups_begin (pos h ∷ hs) n = groups_begin hs n
 groups_begin (negsuc h ∷ hs) n = ap (λ l. (h + 1, l) ∷ groups_of (hs ++ negsuc n ∷ [])) (prefix_begin hs n) ∙ ap (λ l. (h + 1, prefix_of hs) ∷ l) (groups_begin hs n)
 
-pub spells_begin : (hints hints' : Hints) (x : ℤ) (size : ℕ) → x <ℤ pos 0 → size ≡ nat_abs x → hints'.prefix ≡ hints.prefix → hints'.groups ≡ hints.groups ++ (size, []) ∷ [] → SpellsMore hints hints' x
-spells_begin hints hints' (pos n) size down e p q these s = absurd (omega (arith, ints, down))
-spells_begin hints hints' (negsuc n) size down e p q these s =
-    let counted : size ≡ n + 1 = omega (arith, e) in (
-      prefix_begin these n ∙ s.0 ∙ sym p,
-      groups_begin these n ∙ ap (λ gs. gs ++ (n + 1, []) ∷ []) s.1 ∙ ap (λ (k : ℕ). hints.groups ++ (k, []) ∷ []) (sym counted) ∙ sym q,
+pub spells_begin : (hints hints' : Hints) (b : Bool) (size : ℕ) → b ≡ true → size ≢ 0 → hints'.prefix ≡ hints.prefix → hints'.groups ≡ hints.groups ++ (size, []) ∷ [] → SpellsMore hints hints' (signed b size)
+spells_begin hints hints' false size t some p q these s = absurd (cc)
+spells_begin hints hints' true size t some p q these s =
+    let counted : size - 1 + 1 ≡ size = omega arith in (
+      prefix_begin these (size - 1) ∙ s.0 ∙ sym p,
+      groups_begin these (size - 1) ∙ ap (λ gs. gs ++ (size - 1 + 1, []) ∷ []) s.1 ∙ ap (λ (k : ℕ). hints.groups ++ (k, []) ∷ []) counted ∙ sym q,
     )
-
-pub positive_is : (x : ℤ) (size : ℕ) → pos 0 ≤ℤ x → size ≡ nat_abs x → x ≡ pos size
-positive_is (pos n) size up e = ap pos (sym e)
-positive_is (negsuc n) size up e = absurd (omega (arith, ints, up))
 
 -- a positive one without a group is a hint of the prefix
 prefix_outside : (these : List ℤ) (n : ℕ) → groups_of these ≡ [] → prefix_of (these ++ pos n ∷ []) ≡ prefix_of these ++ n ∷ []
@@ -133,10 +214,11 @@ groups_outside [] n e = refl
 groups_outside (pos h ∷ hs) n e = groups_outside hs n e
 groups_outside (negsuc h ∷ hs) n e = absurd (cc)
 
-pub spells_outside : (hints hints' : Hints) (x : ℤ) (n : ℕ) → x ≡ pos n → hints.groups ≡ [] → hints'.prefix ≡ hints.prefix ++ n ∷ [] → hints'.groups ≡ hints.groups → SpellsMore hints hints' x
-spells_outside hints hints' x n e z p q these s = (
-  ap (λ y. prefix_of (these ++ y ∷ [])) e ∙ prefix_outside these n (s.1 ∙ z) ∙ ap (λ l. l ++ n ∷ []) s.0 ∙ sym p,
-  ap (λ y. groups_of (these ++ y ∷ [])) e ∙ groups_outside these n (s.1 ∙ z) ∙ sym z ∙ sym q,
+pub spells_outside : (hints hints' : Hints) (b : Bool) (n : ℕ) → b ≡ false → hints.groups ≡ [] → hints'.prefix ≡ hints.prefix ++ n ∷ [] → hints'.groups ≡ hints.groups → SpellsMore hints hints' (signed b n)
+spells_outside hints hints' true n t z p q these s = absurd (cc)
+spells_outside hints hints' false n t z p q these s = (
+  prefix_outside these n (s.1 ∙ z) ∙ ap (λ l. l ++ n ∷ []) s.0 ∙ sym p,
+  groups_outside these n (s.1 ∙ z) ∙ sym z ∙ sym q,
 )
 
 -- and behind one it is a hint of the last group
@@ -156,11 +238,12 @@ groups_inside [] n l = absurd (omega arith)
 groups_inside (pos h ∷ hs) n l = groups_inside hs n l
 groups_inside (negsuc h ∷ hs) n l = group_inside h n hs (groups_of hs) refl (groups_inside hs n)
 
-pub spells_inside : (hints hints' : Hints) (x : ℤ) (n : ℕ) → x ≡ pos n → 0 < length hints.groups → hints'.prefix ≡ hints.prefix → hints'.groups ≡ with_hint hints.groups n → SpellsMore hints hints' x
-spells_inside hints hints' x n e some p q these s =
+pub spells_inside : (hints hints' : Hints) (b : Bool) (n : ℕ) → b ≡ false → 0 < length hints.groups → hints'.prefix ≡ hints.prefix → hints'.groups ≡ with_hint hints.groups n → SpellsMore hints hints' (signed b n)
+spells_inside hints hints' true n t some p q these s = absurd (cc)
+spells_inside hints hints' false n t some p q these s =
     let there : 0 < length (groups_of these) = omega (arith, ap length s.1) in (
-      ap (λ y. prefix_of (these ++ y ∷ [])) e ∙ prefix_inside these n there ∙ s.0 ∙ sym p,
-      ap (λ y. groups_of (these ++ y ∷ [])) e ∙ groups_inside these n there ∙ ap (λ gs. with_hint gs n) s.1 ∙ sym q,
+      prefix_inside these n there ∙ s.0 ∙ sym p,
+      groups_inside these n there ∙ ap (λ gs. with_hint gs n) s.1 ∙ sym q,
     )
 
 -- numbers stay small

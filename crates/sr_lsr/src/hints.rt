@@ -1,21 +1,39 @@
 // The hints of a step: its prefix, and groups, each of which a negative number begins.
-ghost use Rattle.std.specs.Prelude.{◌≡◌, ◌≢◌, ◌≤◌, pos, unsigned_abs, true, IsTrue, IfOk, OnOk};
-ghost use Rattle.sr_desk.specs.Outside.{OnlyReads};
+//
+// In a binary file nearly all of them stand whole in the reader's buffer, so a run of them is read there by one loop; what
+// ends the run is read as a token.
+ghost use Rattle.std.specs.Prelude.{◌≡◌, ◌≢◌, ◌≤◌, ◌<◌, ℕ, [], unsigned_abs, true, IsTrue, IfOk, IfSome, OnOk};
+ghost use Rattle.sr_desk.specs.Outside.{Outside, OnlyReads};
 ghost use Rattle.sr_desk.specs.Next.{IsSameReader};
 ghost use Rattle.sr_lemma.specs.Left.{tokens_left};
 ghost use Rattle.sr_lemma.specs.Reads.{HasInCause};
 ghost use Rattle.sr_lsr.specs.Reads.{GivesHints};
-ghost use Rattle.sr_lsr.specs.Told.{hints_told, SpellsMore, KeepsSmall, AreSmall};
+ghost use Rattle.sr_lsr.specs.Told.{hints_told, hint_number, SpellsMore, KeepsSmall, AreSmall, LeadsHint, GoesOn, IsFresh};
 
 use sr_base::{Form, IdList, Items, LimitKind, NoMemory};
 use sr_desk::{ByteReader, Desk};
-use sr_lemma::{misplaced, next_token, push_with_room};
+use sr_lemma::{misplaced, next_token};
 use sr_model::Word;
+use sr_scan::short_value;
 use sr_wit::{GroupList, InFault};
 use std::alloc::Global;
 
 /// Few prefixes have more hints.
 const PREFIX_ROOM: usize = 64;
+
+/// A hint as its number spells it: a negative one begins a group.
+#[derive(Clone, Copy)]
+struct Hint {
+    size: u32,
+    begins_group: bool,
+}
+
+/// A hint at the front of some bytes, and how many of them spell it.
+#[derive(Clone, Copy)]
+struct LeadingHint {
+    len: usize,
+    hint: Hint,
+}
 
 /// The hints of a step.
 #[derive(Drop)]
@@ -25,22 +43,84 @@ pub(crate) struct Hints {
 }
 
 impl Hints {
-    /// Adds a number of this size. A negative one begins a group; another is a hint of the last group or, where there is
-    /// none, of the prefix.
-    #[inline]
-    fn add(&mut self, alloc: Global, number: i64, size: u32) -> Result<(), NoMemory>
-        requires some { number ≢ pos 0 }
-        requires size { size ≡ unsigned_abs number }
-        ensures spells { OnOk result (SpellsMore self.old self.new number) }
-        ensures small { OnOk result (KeepsSmall self.old self.new size) }
+    /// No hints, with room for those of a prefix.
+    fn new(alloc: Global) -> Result<Hints, NoMemory>
+        ensures { IfOk result IsFresh }
     {
-        if number < 0 {
-            return self.groups.begin(size);
+        Ok(Hints {
+            prefix: Items::with_capacity(alloc, PREFIX_ROOM)?,
+            groups: GroupList::new(alloc),
+        })
+    }
+
+    /// Adds a hint: it begins a group, or else goes to the last group or, where there is none, to the prefix.
+    #[inline(always)]
+    fn add(&mut self, hint: Hint) -> Result<(), NoMemory>
+        requires { hint.size ≢ 0 }
+        ensures spells { OnOk result (SpellsMore self.old self.new (hint_number hint)) }
+        ensures small { OnOk result (KeepsSmall self.old self.new hint.size) }
+    {
+        if hint.begins_group {
+            return self.groups.begin(hint.size);
         }
         if self.groups.len() == 0 {
-            return push_with_room(alloc, PREFIX_ROOM, &mut self.prefix, size);
+            return self.prefix.push(hint.size);
         }
-        self.groups.add_hint(size)
+        self.groups.add_hint(hint.size)
+    }
+}
+
+/// The hint at the front of some bytes of a binary file, where it has few bytes and is at most the bound.
+#[inline(always)]
+fn hint_front(bytes: &[u8], bound: u32) -> Option<LeadingHint>
+    ensures { IfSome result (LeadsHint bytes.now bound) }
+{
+    let front = short_value(bytes)?;
+    let size = front.value / 2;
+    if size == 0 || size > u64::from(bound) {
+        return None;
+    }
+    let hint = Hint {
+        size: size as u32,
+        begins_group: front.value % 2 == 1,
+    };
+    Some(LeadingHint {
+        len: front.len,
+        hint,
+    })
+}
+
+/// Takes the hints at the front of the bytes at hand.
+fn take_hints(bound: u32, reader: &mut ByteReader, hints: &mut Hints) -> Result<(), NoMemory>
+    ensures spells { OnOk result ((o : Outside) (lists open_lists : ℕ) → 0 < open_lists → GoesOn bound (tokens_left Form.Binary lists open_lists reader.old o) (tokens_left Form.Binary lists open_lists reader.new o) hints.old hints.new) }
+    ensures small { OnOk result (KeepsSmall hints.old hints.new bound) }
+    ensures same { IsSameReader reader.old reader.new }
+{
+    let bytes = reader.buffered();
+    let mut at = 0;
+    'hints: while let Some(front) = hint_front(&bytes[at..], bound) {
+        hints.add(front.hint)?;
+        at += front.len;
+    }
+    reader.skip(at);
+    Ok(())
+}
+
+/// Takes the hints at hand, where they are binary.
+#[inline(always)]
+fn take_ahead(
+    form: Form,
+    bound: u32,
+    reader: &mut ByteReader,
+    hints: &mut Hints,
+) -> Result<(), NoMemory>
+    ensures spells { OnOk result ((o : Outside) (lists open_lists : ℕ) → 0 < open_lists → GoesOn bound (tokens_left form lists open_lists reader.old o) (tokens_left form lists open_lists reader.new o) hints.old hints.new) }
+    ensures small { OnOk result (KeepsSmall hints.old hints.new bound) }
+    ensures same { IsSameReader reader.old reader.new }
+{
+    match form {
+        Form::Text => Ok(()),
+        Form::Binary => take_hints(bound, reader, hints),
     }
 }
 
@@ -60,11 +140,13 @@ pub(crate) fn read_hints<D: Desk>(
     ensures only { OnlyReads reader.old.slot (D.outside desk.old) (D.outside desk.new) }
     ensures cause { HasInCause reader.old.slot (D.outside desk.old) (D.outside desk.new) result }
 {
-    let mut hints = Hints {
-        prefix: Items::new(alloc),
-        groups: GroupList::new(alloc),
+    let Ok(mut hints) = Hints::new(alloc) else {
+        return Err(InFault::NoMemory);
     };
     'tokens: loop {
+        if take_ahead(form, bound, reader, &mut hints).is_err() {
+            return Err(InFault::NoMemory);
+        }
         let token = next_token(form, false, reader, desk)?;
         let Word::Number(x) = token.word else {
             return Err(InFault::Text {
@@ -79,7 +161,11 @@ pub(crate) fn read_hints<D: Desk>(
         if size > u64::from(bound) {
             return Err(InFault::Limit(LimitKind::Ids));
         }
-        if hints.add(alloc, x, size as u32).is_err() {
+        let hint = Hint {
+            size: size as u32,
+            begins_group: x < 0,
+        };
+        if hints.add(hint).is_err() {
             return Err(InFault::NoMemory);
         }
     }

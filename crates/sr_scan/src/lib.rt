@@ -18,4 +18,5 @@ pub use laws::{
 pub use sr_model::{Token, Word};
 pub use text::text_item;
 pub use token::ScanStop;
+pub use value::{Value, short_value};
 pub use write::{put_number_binary, put_number_text};

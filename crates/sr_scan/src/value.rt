@@ -4,9 +4,9 @@
 ghost use Rattle.std.specs.Prelude.{◌≡◌, IfSome};
 ghost use Rattle.sr_scan.specs.BinaryLeft.{LeadsValue, EndsAt};
 
-/// A value at the front of some bytes: how long it is, and what it is.
+/// A value at the front of some bytes of a binary file: how many bytes it has, and what it is.
 #[derive(Clone, Copy, Debug, PartialEq, Eq)]
-pub(crate) struct Value {
+pub struct Value {
     pub len: usize,
     pub value: u64,
 }
@@ -29,12 +29,13 @@ fn last_byte(bytes: &[u8]) -> Option<usize>
     None
 }
 
-/// A value of at most three bytes, as nearly all are.
+/// The value at the front of some bytes of a binary file, where it has at most four bytes, as nearly all have,
+/// and there are at least four.
 #[inline(always)]
-fn short_value(bytes: &[u8]) -> Option<Value>
+pub fn short_value(bytes: &[u8]) -> Option<Value>
     ensures { IfSome result (λ v. LeadsValue bytes.now v.len v.value) }
 {
-    if bytes.len() < 3 {
+    if bytes.len() < 4 {
         return None;
     }
     let first = u64::from(bytes[0]);
@@ -56,6 +57,13 @@ fn short_value(bytes: &[u8]) -> Option<Value>
         return Some(Value {
             len: 3,
             value: 128 * (128 * third + (second - 128)) + (first - 128),
+        });
+    }
+    let fourth = u64::from(bytes[3]);
+    if fourth < 128 {
+        return Some(Value {
+            len: 4,
+            value: 128 * (128 * (128 * fourth + (third - 128)) + (second - 128)) + (first - 128),
         });
     }
     None
