@@ -2,5 +2,6 @@ pub mod BinaryStands
 pub mod FrontLemmas
 pub mod NumberLemmas
 pub mod RunLemmas
+pub mod LiteralLemmas
 pub mod SplitLemmas
 pub mod WriteLemmas

@@ -21,7 +21,7 @@ use Rattle.sr_wit.specs.declared.fault.InFault.{InFault}
 use Rattle.sr_wit.specs.declared.fault.InFault.TheVariants.{Text, Limit, Source, NoMemory}
 use Rattle.sr_lemma.specs.Laws.{front_word}
 use Rattle.sr_lemma.specs.Left.{tokens_left}
-use Rattle.sr_lemma.specs.Reads.{misplaced, WhereTold, StopsNumbers, GivesFront, GivesLiterals}
+use Rattle.sr_lemma.specs.Reads.{misplaced, WhereTold, StopsNumbers, GivesFront, GivesLiterals, TakesLiterals}
 
 -- the numbers by the next token
 front_numbers : (old new : Option Texts) (place : ℕ) (w : Word) → StandsFirst old new place w
@@ -168,7 +168,7 @@ literals_above form bound first old new new' before after after' lits t x inv e 
     s.2 ∙ at_number limit.Vars bound (map number lits) t x s.0 e ∙ by_number_above limit.Vars bound x t.place (map number lits) s.0 _ ne past
 
 -- one literal more
-literal_more : (bound : ℕ) (lits lits' : List Literal) (t : Token) (x : ℤ) (l : Literal) (rest : Texts) → t.word ≡ word.Number x → (x ≡ pos 0 → ⊥) → nat_abs x ≤ bound
+pub literal_more : (bound : ℕ) (lits lits' : List Literal) (t : Token) (x : ℤ) (l : Literal) (rest : Texts) → t.word ≡ word.Number x → (x ≡ pos 0 → ⊥) → nat_abs x ≤ bound
     → number l ≡ x → lits' ≡ lits ++ l ∷ []
     → numbers_after limit.Vars bound (map number lits) (next t rest) ≡ numbers_after limit.Vars bound (map number lits') rest
 literal_more bound lits lits' t x l rest e ne le n p =
@@ -176,7 +176,7 @@ literal_more bound lits lits' t x l rest e ne le n p =
     ∙ by_number_more limit.Vars bound x t.place (map number lits) rest (numbers_after limit.Vars bound (map number lits ++ x ∷ []) rest) ne le
     ∙ ap (λ these. numbers_after limit.Vars bound these rest) (ap (λ y. map number lits ++ y ∷ []) (sym n) ∙ sym (map_push number lits l) ∙ ap (map number) (sym p))
 
--- the literals go on, and the next token is at hand, or there is none
+-- the literals go on by a token
 pub record TakesLiteral (bound : ℕ) (lits lits' : List Literal) (t : Token) : Type 0 where
   pub value : ℤ
   pub literal : Literal
@@ -184,23 +184,41 @@ pub record TakesLiteral (bound : ℕ) (lits lits' : List Literal) (t : Token) : 
   pub some : value ≡ pos 0 → ⊥
   pub within : nat_abs value ≤ bound
   pub named : number literal ≡ value
+  pub named_so : literal ≡ literal_of value
   pub pushed : lits' ≡ lits ++ literal ∷ []
 
-pub holds_more : (form : Form) (bound : ℕ) (first : Token) (old mid new : Reader) (before between after : Outside) (lits lits' : List Literal) (t t' : Token) → Holds form bound first old mid before between lits t
-    → TakesLiteral bound lits lits' t → ((lists o : ℕ) → 0 < o → GivesFront form lists o mid new between after (Ok t')) → Holds form bound first old new before after lits' t'
-holds_more form bound first old mid new before between after lits lits' t t' inv k given lists o all h =
-    let s = inv lists o all h in
-    let stays : tokens_left form lists (suc o) mid between ≡ Some s.0 = ap (λ (n : ℕ). tokens_left form lists n mid between) (sym (open_number lists o t.word k.value k.word_is k.some)) ∙ s.1 in
-    let f = front_next (tokens_left form lists (suc o) mid between) (tokens_left form lists (open_after lists (suc o) t'.word) new after) t' (given lists (suc o) (omega arith)) s.0 stays in
-    (f.0, f.1, s.2 ∙ literal_more bound lits lits' t k.value k.literal s.0 k.word_is k.some k.within k.named k.pushed ∙ f.2 limit.Vars bound (map number lits'))
+-- then others that are at hand are taken
+pub record TakesMore (form : Form) (bound : ℕ) (lits lits' : List Literal) (old new : Reader) (t : Token) : Type 0 where
+  pub with_one : List Literal
+  pub one : TakesLiteral bound lits with_one t
+  pub others : TakesLiterals form bound old new with_one lits'
 
-pub literals_stop : (form : Form) (bound : ℕ) (first : Token) (old mid new : Reader) (before between after : Outside) (lits lits' : List Literal) (t : Token) (e : InFault) → Holds form bound first old mid before between lits t
-    → TakesLiteral bound lits lits' t → ((lists o : ℕ) → 0 < o → GivesFront form lists o mid new between after (Err e)) → (lists o : ℕ) → GivesLiterals form lists o bound first old new before after (Err e)
-literals_stop form bound first old mid new before between after lits lits' t e inv k given lists o all h =
+-- what is left then
+taken_then : (form : Form) (bound : ℕ) (first : Token) (old mid near : Reader) (before between : Outside) (lits lits' : List Literal) (t : Token) → Holds form bound first old mid before between lits t
+    → TakesMore form bound lits lits' mid near t → (lists o : ℕ)
+    → WhereTold (tokens_left form lists (open_after lists (suc o) first.word) old before) (tokens_left form lists (suc o) near between)
+    (λ all rest. numbers_after limit.Vars bound [] (next first all) ≡ numbers_after limit.Vars bound (map number lits') rest)
+taken_then form bound first old mid near before between lits lits' t inv more lists o all h =
+    let k = more.one in
     let s = inv lists o all h in
     let stays : tokens_left form lists (suc o) mid between ≡ Some s.0 = ap (λ (n : ℕ). tokens_left form lists n mid between) (sym (open_number lists o t.word k.value k.word_is k.some)) ∙ s.1 in
-    let more = literal_more bound lits lits' t k.value k.literal s.0 k.word_is k.some k.within k.named k.pushed in
-    subst (StopsNumbers e) (sym (s.2 ∙ more)) (front_stop form lists (suc o) mid new between after e (given lists (suc o) (omega arith)) limit.Vars bound (map number lits') s.0 stays)
+    let others = more.others.numbers between lists (suc o) (omega arith) s.0 stays in
+    (others.0, others.1, s.2 ∙ literal_more bound lits more.with_one t k.value k.literal s.0 k.word_is k.some k.within k.named k.pushed ∙ others.2)
+
+pub holds_more : (form : Form) (bound : ℕ) (first : Token) (old mid near new : Reader) (before between after : Outside) (lits lits' : List Literal) (t t' : Token)
+    → Holds form bound first old mid before between lits t → TakesMore form bound lits lits' mid near t → ((lists o : ℕ) → 0 < o → GivesFront form lists o near new between after (Ok t'))
+    → Holds form bound first old new before after lits' t'
+holds_more form bound first old mid near new before between after lits lits' t t' inv more given lists o all h =
+    let s = taken_then form bound first old mid near before between lits lits' t inv more lists o all h in
+    let f = front_next (tokens_left form lists (suc o) near between) (tokens_left form lists (open_after lists (suc o) t'.word) new after) t' (given lists (suc o) (omega arith)) s.0 s.1 in
+    (f.0, f.1, s.2 ∙ f.2 limit.Vars bound (map number lits'))
+
+pub literals_stop : (form : Form) (bound : ℕ) (first : Token) (old mid near new : Reader) (before between after : Outside) (lits lits' : List Literal) (t : Token) (e : InFault)
+    → Holds form bound first old mid before between lits t → TakesMore form bound lits lits' mid near t → ((lists o : ℕ) → 0 < o → GivesFront form lists o near new between after (Err e))
+    → (lists o : ℕ) → GivesLiterals form lists o bound first old new before after (Err e)
+literals_stop form bound first old mid near new before between after lits lits' t e inv more given lists o all h =
+    let s = taken_then form bound first old mid near before between lits lits' t inv more lists o all h in
+    subst (StopsNumbers e) (sym s.2) (front_stop form lists (suc o) near new between after e (given lists (suc o) (omega arith)) limit.Vars bound (map number lits') s.0 s.1)
 
 pub named_more : (lits lits' : List Literal) (x : ℤ) (l : Literal) → map literal_of (map number lits) ≡ lits → l ≡ literal_of x → number l ≡ x → lits' ≡ lits ++ l ∷ []
     → map literal_of (map number lits') ≡ lits'

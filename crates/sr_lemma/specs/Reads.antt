@@ -1,6 +1,6 @@
 -- How what a reader gives and what is left to it spell what stood at its front.
-use Rattle.std.specs.Prelude.{ℕ, suc, ◌≡◌, List, [], map, Option, Some, Result, Ok, Err}
-use Rattle.sr_base.specs.Literal.{Literal, number}
+use Rattle.std.specs.Prelude.{ℕ, suc, ◌≡◌, ◌+◌, ◌*◌, ◌<◌, ◌≤◌, List, [], map, Option, Some, Result, Ok, Err}
+use Rattle.sr_base.specs.Literal.{Literal, number, literal_of, literal_code}
 use Rattle.sr_base.specs.declared.names.Form.{Form}
 use Rattle.sr_base.specs.declared.names.TextKind.{TextKind}
 use Rattle.sr_base.specs.declared.names.TextKind.TheVariants.{BadWord, Unended}
@@ -13,7 +13,9 @@ use Rattle.sr_model.specs.declared.tokens.Word.TheVariants as word
 use Rattle.sr_model.specs.Texts.{Texts, stopped, over, next}
 use Rattle.sr_model.specs.Binary.{open_after}
 use Rattle.sr_model.specs.Lsr.{NumbersRead, numbers, bad, above, numbers_after}
+use Rattle.sr_desk.specs.Next.{IsSameReader}
 use Rattle.sr_scan.specs.Left.{StandsFirst}
+use Rattle.sr_scan.specs.BinaryLeft.{LeadsValue}
 use Rattle.sr_scan.specs.declared.token.ScanStop.{ScanStop}
 use Rattle.sr_scan.specs.declared.token.ScanStop.TheVariants as scan
 use Rattle.sr_wit.specs.declared.fault.InFault.{InFault}
@@ -50,6 +52,21 @@ GivesFront form lists o old new before after (Err (Limit limit.Bytes)) = WhereTo
 GivesFront form lists o old new before after (Err (Limit _)) = ⊥
 GivesFront form lists o old new before after (Err Source) = Unit {0}
 GivesFront form lists o old new before after (Err NoMemory) = ⊥
+
+-- the first bytes spell a literal, whose variable is within the bound: its value is the literal's code
+pub record LeadsLiteral (bytes : List ℕ) (bound len : ℕ) (l : Literal) : Type 0 where
+  pub leads : LeadsValue bytes len (literal_code l)
+  pub low : 2 ≤ literal_code l
+  pub high : literal_code l ≤ 2 * bound + 1
+
+-- some of the tokens that are left were taken, and are literals behind those that were there
+pub record TakesLiterals (form : Form) (bound : ℕ) (old new : Reader) (lits lits' : List Literal) : Type 0 where
+  pub same : IsSameReader old new
+  pub named : map literal_of (map number lits) ≡ lits → map literal_of (map number lits') ≡ lits'
+  -- so the numbers that are read with those there are the same
+  pub numbers : (o : Outside) (lists open_lists : ℕ) → 0 < open_lists
+      → WhereTold (tokens_left form lists open_lists old o) (tokens_left form lists open_lists new o)
+      (λ all rest. numbers_after limit.Vars bound (map number lits) all ≡ numbers_after limit.Vars bound (map number lits') rest)
 
 -- the fault or the limit of numbers
 abbrev pub StopsNumbers : InFault → NumbersRead → Type 0

@@ -1,16 +1,20 @@
 // The literals of a lemma, a step or a deletion, with those of a witness.
+//
+// In a binary file those that stand whole in the reader's buffer are taken in one go: the value that spells a
+// literal is its code.
 ghost use Rattle.std.specs.Prelude.{◌≡◌, ◌≢◌, ℕ, ◌<◌, ◌≤◌, pos, unsigned_abs, map, true, IsTrue, IfNone, IfSome, OnSome, IfOk};
 ghost use Rattle.sr_base.specs.Literal.{number, literal_of};
+ghost use Rattle.sr_base.specs.declared.names.Form.TheVariants.{Binary};
 ghost use Rattle.sr_desk.specs.Outside.{OnlyReads};
 ghost use Rattle.sr_desk.specs.Next.{IsSameReader};
-ghost use Rattle.sr_lemma.specs.Reads.{GivesLiterals, HasInCause};
+ghost use Rattle.sr_lemma.specs.Reads.{GivesLiterals, HasInCause, LeadsLiteral, TakesLiterals};
 ghost use Rattle.sr_lemma.specs.Told.{literals_told};
 
 use crate::front::{misplaced, next_token};
-use crate::lists::push_with_room;
-use sr_base::{Form, Items, LimitKind, Lit, LitList};
+use sr_base::{Form, Items, LimitKind, Lit, LitList, NoMemory};
 use sr_desk::{ByteReader, Desk};
 use sr_model::{Token, Word};
+use sr_scan::short_value;
 use sr_wit::InFault;
 use std::alloc::Global;
 
@@ -39,6 +43,65 @@ fn literal_within(x: i64, bound: u32) -> Option<Lit>
     }
 }
 
+/// A literal at the front of some bytes of a binary file: how many bytes it has, and which it is.
+#[derive(Clone, Copy)]
+struct LeadingLiteral {
+    len: usize,
+    lit: Lit,
+}
+
+/// The literal at the front, where its variable is at most the bound, and its value a short one.
+#[inline(always)]
+fn literal_front(bytes: &[u8], bound: u32) -> Option<LeadingLiteral>
+    requires { bound ≤ 16777215 }
+    ensures { IfSome result (λ f. LeadsLiteral bytes.now bound f.len f.lit) }
+{
+    let value = short_value(bytes)?;
+    if value.value / 2 > u64::from(bound) {
+        return None;
+    }
+    let lit = Lit::from_code(value.value as u32)?;
+    Some(LeadingLiteral {
+        len: value.len,
+        lit,
+    })
+}
+
+/// Takes the literals of a binary file that are at hand, up to the first that is cut off, above the bound or
+/// spelled in too many bytes, or the `0`.
+fn take_literals(bound: u32, reader: &mut ByteReader, lits: &mut LitList) -> Result<(), NoMemory>
+    requires { bound ≤ 16777215 }
+    ensures ok { IfOk result (λ _. TakesLiterals Binary bound reader.old reader.new lits.old lits.new) }
+    ensures same { IsSameReader reader.old reader.new }
+{
+    let bytes = reader.buffered();
+    let mut at = 0;
+    while let Some(front) = literal_front(&bytes[at..], bound) {
+        lits.push(front.lit)?;
+        at += front.len;
+    }
+    reader.skip(at);
+    Ok(())
+}
+
+/// Takes literals that are at hand, which in text are none.
+#[inline(always)]
+fn take_at_hand(
+    form: Form,
+    bound: u32,
+    reader: &mut ByteReader,
+    lits: &mut LitList,
+) -> Result<(), NoMemory>
+    requires { bound ≤ 16777215 }
+    ensures ok { IfOk result (λ _. TakesLiterals form bound reader.old reader.new lits.old lits.new) }
+    ensures same { IsSameReader reader.old reader.new }
+{
+    match form {
+        Form::Text => Ok(()),
+        Form::Binary => take_literals(bound, reader, lits),
+    }
+}
+
 /// The literals up to `0`, of which the first token was read.
 ///
 /// # Errors
@@ -61,7 +124,9 @@ pub fn read_literals<D: Desk>(
     ensures only { OnlyReads reader.old.slot (D.outside desk.old) (D.outside desk.new) }
     ensures cause { HasInCause reader.old.slot (D.outside desk.old) (D.outside desk.new) result }
 {
-    let mut lits = Items::new(alloc);
+    let Ok(mut lits) = Items::with_capacity(alloc, ROOM) else {
+        return Err(InFault::NoMemory);
+    };
     let mut token = first;
     'tokens: loop {
         let Word::Number(x) = token.word else {
@@ -79,7 +144,10 @@ pub fn read_literals<D: Desk>(
         let Some(l) = literal_within(x, bound) else {
             return Err(InFault::Limit(LimitKind::Vars));
         };
-        if push_with_room(alloc, ROOM, &mut lits, l).is_err() {
+        if lits.push(l).is_err() {
+            return Err(InFault::NoMemory);
+        }
+        if take_at_hand(form, bound, reader, &mut lits).is_err() {
             return Err(InFault::NoMemory);
         }
         token = next_token(form, false, reader, desk)?;
