@@ -49,16 +49,14 @@ impl Lit {
         Some(Lit { code })
     }
 
-    /// The literal of this code; none for a code below 2, and for a variable above [`MOST_VARS`].
+    /// The literal of this code, as [`Lit::code`] gives it.
     #[inline]
-    pub fn from_code(code: u32) -> Option<Lit>
-        ensures none { IsNone result ↔ ((code < 2) ⊎ (2 * MOST_VARS + 1 < code)) }
-        ensures some { IfSome result (λ l. literal_code l ≡ code) }
+    pub fn from_code(code: u32) -> Lit
+        requires low { 2 ≤ code }
+        requires high { code ≤ 2 * MOST_VARS + 1 }
+        ensures { literal_code result ≡ code }
     {
-        if code < 2 || code > 2 * MOST_VARS + 1 {
-            return None;
-        }
-        Some(Lit { code })
+        Lit { code }
     }
 
     /// The complement.

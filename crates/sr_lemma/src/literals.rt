@@ -57,13 +57,12 @@ fn literal_front(bytes: &[u8], bound: u32) -> Option<LeadingLiteral>
     ensures { IfSome result (λ f. LeadsLiteral bytes.now bound f.len f.lit) }
 {
     let value = short_value(bytes)?;
-    if value.value / 2 > u64::from(bound) {
+    if value.value < 2 || value.value > 2 * u64::from(bound) + 1 {
         return None;
     }
-    let lit = Lit::from_code(value.value as u32)?;
     Some(LeadingLiteral {
         len: value.len,
-        lit,
+        lit: Lit::from_code(value.value as u32),
     })
 }
 

@@ -10,3 +10,4 @@ pub mod BinaryLemmas
 pub mod ValueLemmas
 pub mod AgainLemmas
 pub mod StreamLemmas
+pub mod ShortLemmas
