@@ -10,4 +10,3 @@ pub mod BinaryLemmas
 pub mod ValueLemmas
 pub mod AgainLemmas
 pub mod StreamLemmas
-pub mod ShortLemmas

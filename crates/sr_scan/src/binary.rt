@@ -159,7 +159,7 @@ fn item_token(byte: u8, place: u64) -> Result<Token, ScanStop>
 }
 
 /// The first byte of an item, or the end.
-#[inline(never)]
+#[inline(always)]
 fn item_start<D: Desk>(reader: &mut ByteReader, desk: &mut D) -> Result<Token, ScanStop>
     requires { IsTrue ((D.outside desk.old).slot reader.old.slot).reads }
     ensures advances { IfOk result (λ t. Advances reader.old reader.new t.word) }

@@ -1,7 +1,7 @@
 // A value of a binary file that stands whole in some bytes: the common case.
 //
 // Values of more than eight bytes, and those that the end of the buffer cuts, are read byte by byte.
-ghost use Rattle.std.specs.Prelude.{◌≡◌, ◌≤◌, length, slice_index, IfSome};
+ghost use Rattle.std.specs.Prelude.{◌≡◌, IfSome};
 ghost use Rattle.sr_scan.specs.BinaryLeft.{LeadsValue, EndsAt};
 
 /// A value at the front of some bytes of a binary file: how many bytes it has, and what it is.
@@ -29,28 +29,8 @@ fn last_byte(bytes: &[u8]) -> Option<usize>
     None
 }
 
-/// The value of four bytes of which the first three say that another follows.
-fn value_of_four(bytes: &[u8]) -> Option<Value>
-    requires some { 4 ≤ length bytes.now }
-    requires more { (128 ≤ slice_index bytes.now 0) × (128 ≤ slice_index bytes.now 1) × (128 ≤ slice_index bytes.now 2) }
-    ensures { IfSome result (λ v. LeadsValue bytes.now v.len v.value) }
-{
-    let fourth = u64::from(bytes[3]);
-    if fourth >= 128 {
-        return None;
-    }
-    let third = u64::from(bytes[2] - 128);
-    let second = u64::from(bytes[1] - 128);
-    Some(Value {
-        len: 4,
-        value: 128 * (128 * (128 * fourth + third) + second) + u64::from(bytes[0] - 128),
-    })
-}
-
 /// The value at the front of some bytes of a binary file, where it has at most four bytes, as nearly all have,
 /// and there are at least four.
-///
-/// How many bytes it has can't be foretold, so up to three are put together without asking.
 #[inline(always)]
 pub fn short_value(bytes: &[u8]) -> Option<Value>
     ensures { IfSome result (λ v. LeadsValue bytes.now v.len v.value) }
@@ -59,20 +39,34 @@ pub fn short_value(bytes: &[u8]) -> Option<Value>
         return None;
     }
     let first = u64::from(bytes[0]);
-    let second = u64::from(bytes[1]);
-    let third = u64::from(bytes[2]);
-    let has_second = first / 128;
-    let has_third = has_second * (second / 128);
-    if has_third * (third / 128) == 1 {
-        return value_of_four(bytes);
+    if first < 128 {
+        return Some(Value {
+            len: 1,
+            value: first,
+        });
     }
-    let low = first % 128;
-    let middle = has_second * 128 * (second % 128);
-    let high = has_third * 16_384 * (third % 128);
-    Some(Value {
-        len: (1 + has_second + has_third) as usize,
-        value: low + middle + high,
-    })
+    let second = u64::from(bytes[1]);
+    if second < 128 {
+        return Some(Value {
+            len: 2,
+            value: 128 * second + (first - 128),
+        });
+    }
+    let third = u64::from(bytes[2]);
+    if third < 128 {
+        return Some(Value {
+            len: 3,
+            value: 128 * (128 * third + (second - 128)) + (first - 128),
+        });
+    }
+    let fourth = u64::from(bytes[3]);
+    if fourth < 128 {
+        return Some(Value {
+            len: 4,
+            value: 128 * (128 * (128 * fourth + (third - 128)) + (second - 128)) + (first - 128),
+        });
+    }
+    None
 }
 
 /// The value at the front, where it stands there whole.
