@@ -80,6 +80,7 @@ impl Marks {
     }
 
     /// Adds a literal at the end.
+    #[inline]
     pub fn add(&mut self, l: Lit) -> Result<(), NoMemory>
         ensures ok { OnOk result (self.new.lits ≡ self.old.lits ++ l ∷ []) }
         ensures err { OnErr result (self.new.lits ≡ self.old.lits) }
