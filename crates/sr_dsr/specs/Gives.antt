@@ -1,5 +1,6 @@
 -- What reading a line gives.
-use Rattle.std.specs.Prelude.{◌≡◌, ◌-◌, ◌<◌, [], Option, Some, None, Result, Ok, Err}
+use Rattle.std.specs.Prelude.{ℕ, ◌≡◌, ◌-◌, ◌<◌, List, [], Option, Some, None, Result, Ok, Err}
+use Rattle.sr_base.specs.Literal.{Literal}
 use Rattle.sr_base.specs.Limits.{LimitValues}
 use Rattle.sr_base.specs.declared.names.Form.{Form}
 use Rattle.sr_base.specs.declared.names.LimitKind.TheVariants as limit
@@ -7,7 +8,8 @@ use Rattle.sr_desk.specs.Reader.{Reader}
 use Rattle.sr_model.specs.declared.tokens.Token.{Token}
 use Rattle.sr_model.specs.Texts.{Texts, next}
 use Rattle.sr_model.specs.Lsr.{numbers_after}
-use Rattle.sr_model.specs.Dsr.{LineRead, line, none, misspells, passes, with_lemma, with_deletion, line_in}
+use Rattle.sr_model.specs.Witnesses.{fault_of_literals}
+use Rattle.sr_model.specs.Dsr.{LineRead, line, none, misspells, passes, lemma_line, lemma_of, with_lemma, with_deletion, line_in}
 use Rattle.sr_wit.specs.declared.fault.InFault.{InFault}
 use Rattle.sr_wit.specs.declared.fault.InFault.TheVariants.{Text, Limit, Source, NoMemory}
 use Rattle.sr_lemma.specs.declared.lemma.DsrLine.{DsrLine}
@@ -26,6 +28,14 @@ StopsLine NoMemory read = Unit {0}
 abbrev pub GivesOf : (Texts → LineRead) → Option Texts → Option Texts → Result DsrLine InFault → Type 0
 GivesOf read old new (Ok l) = WhereTold old new (λ all rest. read all ≡ line (line_of l) rest)
 GivesOf read old new (Err e) = WhereToldBefore old (λ all. StopsLine e (read all))
+
+-- the lemma of its literals, of which a `0` at this place is the end
+abbrev pub GivesLemmaMade : List Literal → ℕ → Result DsrLine InFault → Type 0
+GivesLemmaMade lits end (Ok l) = (fault_of_literals lits ≡ None) × (line_of l ≡ lemma_line (lemma_of lits))
+GivesLemmaMade lits end (Err (Text kind place)) = (fault_of_literals lits ≡ Some kind) × (place ≡ end)
+GivesLemmaMade lits end (Err (Limit kind)) = ⊥
+GivesLemmaMade lits end (Err Source) = ⊥
+GivesLemmaMade lits end (Err NoMemory) = Unit {0}
 
 -- a lemma, behind the first token of its literals
 abbrev pub GivesLemmaLine : LimitValues → Token → Option Texts → Option Texts → Result DsrLine InFault → Type 0

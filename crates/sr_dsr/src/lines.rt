@@ -7,34 +7,41 @@ ghost use Rattle.sr_model.specs.Dsr.{LineHasPivot};
 ghost use Rattle.sr_lemma.specs.Left.{tokens_left};
 ghost use Rattle.sr_lemma.specs.Reads.{HasInCause};
 ghost use Rattle.sr_lemma.specs.Lines.{line_of};
-ghost use Rattle.sr_dsr.specs.Gives.{GivesLemmaLine, GivesLemmaBehind, GivesDeletion, GivesLineBehind, GivesLine, TakesSome};
+ghost use Rattle.sr_dsr.specs.Gives.{GivesLemmaMade, GivesLemmaLine, GivesLemmaBehind, GivesDeletion, GivesLineBehind, GivesLine, TakesSome};
 
 use sr_base::{Clause, Form, Limits, TextKind};
 use sr_desk::{ByteReader, Desk};
-use sr_lemma::{DsrLine, Lemma, next_token, read_literals};
+use sr_lemma::{DsrLine, Lemma, Literals, next_token, read_all_literals, read_literals};
 use sr_model::{Token, Word};
 use sr_wit::InFault;
 use std::alloc::Global;
 
-/// The lemma of which the first token was read.
-fn read_lemma<D: Desk>(
+/// The lemma of its literals.
+fn make_lemma(alloc: Global, literals: Literals) -> Result<DsrLine, InFault>
+    ensures line { GivesLemmaMade literals.lits literals.end result }
+    ensures pivot { IfOk result (λ l. LineHasPivot (line_of l)) }
+{
+    let lemma = Lemma::from_literals(alloc, literals.lits, literals.end)?;
+    Ok(DsrLine::Add(lemma))
+}
+
+/// The lemma of a text of which the first token was read.
+fn read_text_lemma<D: Desk>(
     alloc: Global,
-    form: Form,
     first: Token,
     reader: &mut ByteReader,
     desk: &mut D,
     limits: &Limits,
 ) -> Result<DsrLine, InFault>
     requires { IsTrue ((D.outside desk.old).slot reader.old.slot).reads }
-    ensures line { GivesLemmaLine limits.now first (tokens_left form 1 (open_after 1 1 first.word) reader.old (D.outside desk.old)) (tokens_left form 1 0 reader.new (D.outside desk.new)) result }
+    ensures line { GivesLemmaLine limits.now first (tokens_left Form.Text 1 (open_after 1 1 first.word) reader.old (D.outside desk.old)) (tokens_left Form.Text 1 0 reader.new (D.outside desk.new)) result }
     ensures pivot { IfOk result (λ l. LineHasPivot (line_of l)) }
     ensures same { IsSameReader reader.old reader.new }
     ensures only { OnlyReads reader.old.slot (D.outside desk.old) (D.outside desk.new) }
     ensures cause { HasInCause reader.old.slot (D.outside desk.old) (D.outside desk.new) result }
 {
-    let literals = read_literals(alloc, form, limits.vars(), first, reader, desk)?;
-    let lemma = Lemma::from_literals(alloc, literals.lits, literals.end)?;
-    Ok(DsrLine::Add(lemma))
+    let literals = read_literals(alloc, Form::Text, limits.vars(), first, reader, desk)?;
+    make_lemma(alloc, literals)
 }
 
 /// The deletion behind the token that tells it.
@@ -52,8 +59,7 @@ fn read_deletion<D: Desk>(
     ensures only { OnlyReads reader.old.slot (D.outside desk.old) (D.outside desk.new) }
     ensures cause { HasInCause reader.old.slot (D.outside desk.old) (D.outside desk.new) result }
 {
-    let first = next_token(form, false, reader, desk)?;
-    let literals = read_literals(alloc, form, limits.vars(), first, reader, desk)?;
+    let literals = read_all_literals(alloc, form, limits.vars(), reader, desk)?;
     match Clause::from_list(alloc, literals.lits) {
         Ok(clause) => Ok(DsrLine::Del(clause)),
         Err(_) => Err(InFault::NoMemory),
@@ -87,7 +93,7 @@ fn text_line<D: Desk>(
 {
     match token.word {
         Word::End => Ok(None),
-        Word::Number(_) => match read_lemma(alloc, Form::Text, token, reader, desk, limits) {
+        Word::Number(_) => match read_text_lemma(alloc, token, reader, desk, limits) {
             Ok(line) => Ok(Some(line)),
             Err(fault) => Err(fault),
         },
@@ -113,8 +119,8 @@ fn read_binary_lemma<D: Desk>(
     ensures only { OnlyReads reader.old.slot (D.outside desk.old) (D.outside desk.new) }
     ensures cause { HasInCause reader.old.slot (D.outside desk.old) (D.outside desk.new) result }
 {
-    let first = next_token(Form::Binary, false, reader, desk)?;
-    read_lemma(alloc, Form::Binary, first, reader, desk, limits)
+    let literals = read_all_literals(alloc, Form::Binary, limits.vars(), reader, desk)?;
+    make_lemma(alloc, literals)
 }
 
 /// The line of a binary file that a token begins.

@@ -1,6 +1,6 @@
 -- What a token does to the numbers that are read.
-use Rattle.std.proofs.Common.{◌≡◌, ◌∙◌, ℕ, ℤ, pos, negsuc, zero, suc, ◌-◌, ◌<◌, ◌≤◌, refl, sym, ap, subst, map, List, [], ◌∷◌, ◌++◌, true, false, Option, Some, Ok, Err, arith}
-use Rattle.std.specs.Prelude.{nat_abs, nat_le}
+use Rattle.std.proofs.Common.{◌≡◌, ◌∙◌, ℕ, ℤ, pos, negsuc, zero, suc, ◌-◌, ◌<◌, ◌≤◌, refl, sym, ap, subst, map, List, [], ◌∷◌, ◌++◌, true, false, Option, Some, None, Ok, Err, arith}
+use Rattle.std.specs.Prelude.{nat_abs, nat_le, Result}
 use Rattle.std.proofs.lemmas.Bool.Decides.{nat_tests}
 use Rattle.std.proofs.lemmas.List.{map_push}
 use Rattle.sr_base.specs.Literal.{Literal, number, literal_of}
@@ -15,13 +15,13 @@ use Rattle.sr_model.specs.declared.tokens.Word.{Word}
 use Rattle.sr_model.specs.declared.tokens.Word.TheVariants as word
 use Rattle.sr_model.specs.Texts.{Texts, finished, next}
 use Rattle.sr_model.specs.Binary.{open_after}
-use Rattle.sr_model.specs.Lsr.{NumbersRead, bad, above, by_number, by_word, numbers_after}
+use Rattle.sr_model.specs.Lsr.{NumbersRead, numbers, bad, above, by_number, by_word, numbers_after}
 use Rattle.sr_scan.specs.Left.{StandsFirst, Advances}
 use Rattle.sr_wit.specs.declared.fault.InFault.{InFault}
 use Rattle.sr_wit.specs.declared.fault.InFault.TheVariants.{Text, Limit, Source, NoMemory}
 use Rattle.sr_lemma.specs.Laws.{front_word}
 use Rattle.sr_lemma.specs.Left.{tokens_left}
-use Rattle.sr_lemma.specs.Reads.{misplaced, WhereTold, StopsNumbers, GivesFront, GivesLiterals, TakesLiterals}
+use Rattle.sr_lemma.specs.Reads.{misplaced, WhereTold, StopsNumbers, SaysLiteral, GivesFront, GivesLiterals, GivesMore, TakesLiterals}
 
 -- the numbers by the next token
 front_numbers : (old new : Option Texts) (place : ℕ) (w : Word) → StandsFirst old new place w
@@ -61,11 +61,6 @@ pub by_number_above : (kind : LimitKind) (bound : ℕ) (x : ℤ) (place : ℕ) (
 by_number_above kind bound (pos zero) place these rest more ne le = absurd (ne refl)
 by_number_above kind bound (pos (suc n)) place these rest more ne le = let t : nat_le (suc n) bound ≡ false = grind (arith, nat_tests) in rw t refl
 by_number_above kind bound (negsuc n) place these rest more ne le = let t : nat_le (suc n) bound ≡ false = grind (arith, nat_tests) in rw t refl
-
--- whether a token is at hand: not at the end
-abbrev pub token_left : Word → ℕ
-token_left word.End = 0
-token_left w = 1
 
 -- the numbers behind a token
 pub at_word : (kind : LimitKind) (bound : ℕ) (these : List ℤ) (t : Token) (rest : Texts)
@@ -135,38 +130,6 @@ open_number lists o w x e ne = ap (open_after lists (suc o)) e ∙ at x ne
 pub open_zero : (lists o : ℕ) (w : Word) (x : ℤ) → w ≡ word.Number x → x ≡ pos 0 → open_after lists (suc o) w ≡ o
 open_zero lists o w x e z = ap (open_after lists (suc o)) (e ∙ ap word.Number z) ∙ omega arith
 
--- what was read, the token at hand and what is left spell what stood at the front
-abbrev pub Holds : Form → ℕ → Token → Reader → Reader → Outside → Outside → List Literal → Token → Type 0
-Holds form bound first old new before after lits t = (lists o : ℕ)
-    → WhereTold (tokens_left form lists (open_after lists (suc o) first.word) old before) (tokens_left form lists (open_after lists (suc o) t.word) new after)
-    (λ all rest. numbers_after limit.Vars bound [] (next first all) ≡ numbers_after limit.Vars bound (map number lits) (next t rest))
-
-pub holds_first : (form : Form) (bound : ℕ) (first : Token) (old : Reader) (before : Outside) (lits : List Literal) → lits ≡ [] → Holds form bound first old old before before lits first
-holds_first form bound first old before lits e lists o all h = (all, h, ap (λ ls. numbers_after limit.Vars bound (map number ls) (next first all)) (sym e))
-
--- the end of the literals
-pub literals_end : (form : Form) (bound : ℕ) (first : Token) (old new : Reader) (before after : Outside) (lits : List Literal) (t : Token) (x : ℤ) → Holds form bound first old new before after lits t
-    → t.word ≡ word.Number x → x ≡ pos 0 → (lists o : ℕ) → GivesLiterals form lists o bound first old new before after (Ok (lits, t.place))
-literals_end form bound first old new before after lits t x inv e z lists o all h =
-    let s = inv lists o all h in (
-      s.0,
-      ap (λ (k : ℕ). tokens_left form lists k new after) (sym (open_zero lists o t.word x e z)) ∙ s.1,
-      s.2 ∙ at_number limit.Vars bound (map number lits) t x s.0 e
-          ∙ ap (λ y. by_number limit.Vars bound y t.place (map number lits) s.0 (numbers_after limit.Vars bound (map number lits ++ y ∷ []) s.0)) z,
-    )
-
--- a token that is no number, and a variable above the bound
-pub literals_misplaced : (form : Form) (bound : ℕ) (first : Token) (old new new' : Reader) (before after after' : Outside) (lits : List Literal) (t : Token) → Holds form bound first old new before after lits t
-    → ((x : ℤ) → t.word ≡ word.Number x → ⊥) → (lists o : ℕ) → GivesLiterals form lists o bound first old new' before after' (Err (Text (misplaced t.word) t.place))
-literals_misplaced form bound first old new new' before after after' lits t inv n lists o all h =
-    let s = inv lists o all h in s.2 ∙ at_default limit.Vars bound (map number lits) t s.0 n
-
-pub literals_above : (form : Form) (bound : ℕ) (first : Token) (old new new' : Reader) (before after after' : Outside) (lits : List Literal) (t : Token) (x : ℤ) → Holds form bound first old new before after lits t
-    → t.word ≡ word.Number x → (x ≡ pos 0 → ⊥) → bound < nat_abs x → (lists o : ℕ) → GivesLiterals form lists o bound first old new' before after' (Err (Limit limit.Vars))
-literals_above form bound first old new new' before after after' lits t x inv e ne past lists o all h =
-    let s = inv lists o all h in
-    s.2 ∙ at_number limit.Vars bound (map number lits) t x s.0 e ∙ by_number_above limit.Vars bound x t.place (map number lits) s.0 _ ne past
-
 -- one literal more
 pub literal_more : (bound : ℕ) (lits lits' : List Literal) (t : Token) (x : ℤ) (l : Literal) (rest : Texts) → t.word ≡ word.Number x → (x ≡ pos 0 → ⊥) → nat_abs x ≤ bound
     → number l ≡ x → lits' ≡ lits ++ l ∷ []
@@ -176,49 +139,99 @@ literal_more bound lits lits' t x l rest e ne le n p =
     ∙ by_number_more limit.Vars bound x t.place (map number lits) rest (numbers_after limit.Vars bound (map number lits ++ x ∷ []) rest) ne le
     ∙ ap (λ these. numbers_after limit.Vars bound these rest) (ap (λ y. map number lits ++ y ∷ []) (sym n) ∙ sym (map_push number lits l) ∙ ap (map number) (sym p))
 
--- the literals go on by a token
-pub record TakesLiteral (bound : ℕ) (lits lits' : List Literal) (t : Token) : Type 0 where
-  pub value : ℤ
-  pub literal : Literal
-  pub word_is : t.word ≡ word.Number value
-  pub some : value ≡ pos 0 → ⊥
-  pub within : nat_abs value ≤ bound
-  pub named : number literal ≡ value
-  pub named_so : literal ≡ literal_of value
-  pub pushed : lits' ≡ lits ++ literal ∷ []
+-- what was read and what is left spell what stood at the front
+abbrev pub Holds : Form → ℕ → List Literal → Reader → Reader → Outside → Outside → List Literal → Type 0
+Holds form bound start old new before after lits = (lists o : ℕ)
+    → WhereTold (tokens_left form lists (suc o) old before) (tokens_left form lists (suc o) new after)
+    (λ all rest. numbers_after limit.Vars bound (map number start) all ≡ numbers_after limit.Vars bound (map number lits) rest)
 
--- then others that are at hand are taken
-pub record TakesMore (form : Form) (bound : ℕ) (lits lits' : List Literal) (old new : Reader) (t : Token) : Type 0 where
-  pub with_one : List Literal
-  pub one : TakesLiteral bound lits with_one t
-  pub others : TakesLiterals form bound old new with_one lits'
+pub holds_start : (form : Form) (bound : ℕ) (r : Reader) (o : Outside) (lits : List Literal) → Holds form bound lits r r o o lits
+holds_start form bound r o lits lists open_lists all h = (all, h, refl)
 
--- what is left then
-taken_then : (form : Form) (bound : ℕ) (first : Token) (old mid near : Reader) (before between : Outside) (lits lits' : List Literal) (t : Token) → Holds form bound first old mid before between lits t
-    → TakesMore form bound lits lits' mid near t → (lists o : ℕ)
-    → WhereTold (tokens_left form lists (open_after lists (suc o) first.word) old before) (tokens_left form lists (suc o) near between)
-    (λ all rest. numbers_after limit.Vars bound [] (next first all) ≡ numbers_after limit.Vars bound (map number lits') rest)
-taken_then form bound first old mid near before between lits lits' t inv more lists o all h =
-    let k = more.one in
+-- literals at hand were taken
+pub holds_at_hand : (form : Form) (bound : ℕ) (start : List Literal) (old mid new : Reader) (before between : Outside) (lits lits' : List Literal) → Holds form bound start old mid before between lits
+    → TakesLiterals form bound mid new lits lits' → Holds form bound start old new before between lits'
+holds_at_hand form bound start old mid new before between lits lits' inv takes lists o all h =
     let s = inv lists o all h in
-    let stays : tokens_left form lists (suc o) mid between ≡ Some s.0 = ap (λ (n : ℕ). tokens_left form lists n mid between) (sym (open_number lists o t.word k.value k.word_is k.some)) ∙ s.1 in
-    let others = more.others.numbers between lists (suc o) (omega arith) s.0 stays in
-    (others.0, others.1, s.2 ∙ literal_more bound lits more.with_one t k.value k.literal s.0 k.word_is k.some k.within k.named k.pushed ∙ others.2)
+    let t = takes.numbers between lists (suc o) (omega arith) s.0 s.1 in
+    (t.0, t.1, s.2 ∙ t.2)
 
-pub holds_more : (form : Form) (bound : ℕ) (first : Token) (old mid near new : Reader) (before between after : Outside) (lits lits' : List Literal) (t t' : Token)
-    → Holds form bound first old mid before between lits t → TakesMore form bound lits lits' mid near t → ((lists o : ℕ) → 0 < o → GivesFront form lists o near new between after (Ok t'))
-    → Holds form bound first old new before after lits' t'
-holds_more form bound first old mid near new before between after lits lits' t t' inv more given lists o all h =
-    let s = taken_then form bound first old mid near before between lits lits' t inv more lists o all h in
-    let f = front_next (tokens_left form lists (suc o) near between) (tokens_left form lists (open_after lists (suc o) t'.word) new after) t' (given lists (suc o) (omega arith)) s.0 s.1 in
-    (f.0, f.1, s.2 ∙ f.2 limit.Vars bound (map number lits'))
+-- no token is read behind them
+pub more_stop : (form : Form) (bound : ℕ) (start : List Literal) (old mid new : Reader) (before between after : Outside) (lits : List Literal) (e : InFault) → Holds form bound start old mid before between lits
+    → ((lists o : ℕ) → 0 < o → GivesFront form lists o mid new between after (Err e)) → (lists o : ℕ) → GivesMore form lists o bound start old new before after (Err e)
+more_stop form bound start old mid new before between after lits e inv given lists o all h =
+    let s = inv lists o all h in
+    subst (StopsNumbers e) (sym s.2) (front_stop form lists (suc o) mid new between after e (given lists (suc o) (omega arith)) limit.Vars bound (map number lits) s.0 s.1)
 
-pub literals_stop : (form : Form) (bound : ℕ) (first : Token) (old mid near new : Reader) (before between after : Outside) (lits lits' : List Literal) (t : Token) (e : InFault)
-    → Holds form bound first old mid before between lits t → TakesMore form bound lits lits' mid near t → ((lists o : ℕ) → 0 < o → GivesFront form lists o near new between after (Err e))
-    → (lists o : ℕ) → GivesLiterals form lists o bound first old new before after (Err e)
-literals_stop form bound first old mid near new before between after lits lits' t e inv more given lists o all h =
-    let s = taken_then form bound first old mid near before between lits lits' t inv more lists o all h in
-    subst (StopsNumbers e) (sym s.2) (front_stop form lists (suc o) near new between after e (given lists (suc o) (omega arith)) limit.Vars bound (map number lits') s.0 s.1)
+-- or a token is
+more_front : (form : Form) (bound : ℕ) (start : List Literal) (old mid new : Reader) (before between after : Outside) (lits : List Literal) (t : Token) → Holds form bound start old mid before between lits
+    → ((lists o : ℕ) → 0 < o → GivesFront form lists o mid new between after (Ok t)) → (lists o : ℕ)
+    → WhereTold (tokens_left form lists (suc o) old before) (tokens_left form lists (open_after lists (suc o) t.word) new after)
+    (λ all rest. numbers_after limit.Vars bound (map number start) all ≡ numbers_after limit.Vars bound (map number lits) (next t rest))
+more_front form bound start old mid new before between after lits t inv given lists o all h =
+    let s = inv lists o all h in
+    let f = front_next (tokens_left form lists (suc o) mid between) (tokens_left form lists (open_after lists (suc o) t.word) new after) t (given lists (suc o) (omega arith)) s.0 s.1 in
+    (f.0, f.1, s.2 ∙ f.2 limit.Vars bound (map number lits))
+
+-- a token that says a fault, the end or a literal
+says_fault : (bound : ℕ) (t : Token) (e : InFault) (these : List ℤ) (rest : Texts) → SaysLiteral bound t (Err e) → StopsNumbers e (numbers_after limit.Vars bound these (next t rest))
+says_fault bound t (Text kind place) these rest s = at_default limit.Vars bound these t rest s.0 ∙ ap (λ k. bad k t.place) (sym s.1) ∙ ap (bad kind) (sym s.2)
+says_fault bound t (Limit kind) these rest s = at_number limit.Vars bound these t s.0 rest s.1 ∙ by_number_above limit.Vars bound s.0 t.place these rest _ s.2 s.3 ∙ ap above (sym s.4)
+says_fault bound t Source these rest s = absurd s
+says_fault bound t NoMemory these rest s = absurd s
+
+says_end : (bound : ℕ) (t : Token) (these : List ℤ) (rest : Texts) → SaysLiteral bound t (Ok None) → numbers_after limit.Vars bound these (next t rest) ≡ numbers these t.place rest
+says_end bound t these rest s = at_number limit.Vars bound these t (pos 0) rest s
+
+says_more : (bound : ℕ) (t : Token) (l : Literal) (lits lits' : List Literal) (rest : Texts) → SaysLiteral bound t (Ok (Some l)) → lits' ≡ lits ++ l ∷ []
+    → numbers_after limit.Vars bound (map number lits) (next t rest) ≡ numbers_after limit.Vars bound (map number lits') rest
+says_more bound t l lits lits' rest s p = literal_more bound lits lits' t (number l) l rest s.0 s.1 s.2 refl p
+
+pub more_fault : (form : Form) (bound : ℕ) (start : List Literal) (old mid new : Reader) (before between after : Outside) (lits : List Literal) (t : Token) (e : InFault) → Holds form bound start old mid before between lits
+    → ((lists o : ℕ) → 0 < o → GivesFront form lists o mid new between after (Ok t)) → SaysLiteral bound t (Err e) → (lists o : ℕ) → GivesMore form lists o bound start old new before after (Err e)
+more_fault form bound start old mid new before between after lits t e inv given says lists o all h =
+    let s = more_front form bound start old mid new before between after lits t inv given lists o all h in
+    subst (StopsNumbers e) (sym s.2) (says_fault bound t e (map number lits) s.0 says)
+
+pub more_end : (form : Form) (bound : ℕ) (start : List Literal) (old mid new : Reader) (before between after : Outside) (lits : List Literal) (t : Token) → Holds form bound start old mid before between lits
+    → ((lists o : ℕ) → 0 < o → GivesFront form lists o mid new between after (Ok t)) → SaysLiteral bound t (Ok None) → (lists o : ℕ) → GivesMore form lists o bound start old new before after (Ok (lits, t.place))
+more_end form bound start old mid new before between after lits t inv given says lists o all h =
+    let s = more_front form bound start old mid new before between after lits t inv given lists o all h in
+    (s.0, ap (λ (k : ℕ). tokens_left form lists k new after) (sym (open_zero lists o t.word (pos 0) says refl)) ∙ s.1, s.2 ∙ says_end bound t (map number lits) s.0 says)
+
+pub holds_more : (form : Form) (bound : ℕ) (start : List Literal) (old mid new : Reader) (before between after : Outside) (lits lits' : List Literal) (t : Token) (l : Literal)
+    → Holds form bound start old mid before between lits → ((lists o : ℕ) → 0 < o → GivesFront form lists o mid new between after (Ok t)) → SaysLiteral bound t (Ok (Some l)) → lits' ≡ lits ++ l ∷ []
+    → Holds form bound start old new before after lits'
+holds_more form bound start old mid new before between after lits lits' t l inv given says p lists o all h =
+    let s = more_front form bound start old mid new before between after lits t inv given lists o all h in (
+      s.0,
+      ap (λ (k : ℕ). tokens_left form lists k new after) (sym (open_number lists o t.word (number l) says.0 says.1)) ∙ s.1,
+      s.2 ∙ says_more bound t l lits lits' s.0 says p,
+    )
+
+-- the literals by their first token
+pub first_fault : (form : Form) (bound : ℕ) (t : Token) (old new : Reader) (before after : Outside) (e : InFault) → SaysLiteral bound t (Err e) → (lists o : ℕ) → GivesLiterals form lists o bound t old new before after (Err e)
+first_fault form bound t old new before after e says lists o all h = says_fault bound t e [] all says
+
+pub first_end : (form : Form) (bound : ℕ) (t : Token) (r : Reader) (out : Outside) (lits : List Literal) → SaysLiteral bound t (Ok None) → lits ≡ []
+    → (lists o : ℕ) → GivesLiterals form lists o bound t r r out out (Ok (lits, t.place))
+first_end form bound t r out lits says none lists o all h = (
+  all,
+  ap (λ (k : ℕ). tokens_left form lists k r out) (sym (open_zero lists o t.word (pos 0) says refl)) ∙ h,
+  says_end bound t [] all says ∙ ap (λ ls. numbers (map number ls) t.place all) (sym none),
+)
+
+pub first_more : (form : Form) (bound : ℕ) (t : Token) (old new : Reader) (before after : Outside) (l : Literal) (lits : List Literal) (result : Result (List Literal × ℕ) InFault)
+    → SaysLiteral bound t (Ok (Some l)) → lits ≡ l ∷ [] → ((lists o : ℕ) → GivesMore form lists o bound lits old new before after result)
+    → (lists o : ℕ) → GivesLiterals form lists o bound t old new before after result
+first_more form bound t old new before after l lits result says one given lists o = at result (given lists o)
+  where
+    opens : (all : Texts) → tokens_left form lists (open_after lists (suc o) t.word) old before ≡ Some all → tokens_left form lists (suc o) old before ≡ Some all
+    opens all h = ap (λ (k : ℕ). tokens_left form lists k old before) (sym (open_number lists o t.word (number l) says.0 says.1)) ∙ h
+
+    at : (result : Result (List Literal × ℕ) InFault) → GivesMore form lists o bound lits old new before after result → GivesLiterals form lists o bound t old new before after result
+    at (Ok r) given = λ all h. let s = given all (opens all h) in (s.0, s.1, says_more bound t l [] lits all says one ∙ s.2)
+    at (Err e) given = λ all h. subst (StopsNumbers e) (sym (says_more bound t l [] lits all says one)) (given all (opens all h))
 
 pub named_more : (lits lits' : List Literal) (x : ℤ) (l : Literal) → map literal_of (map number lits) ≡ lits → l ≡ literal_of x → number l ≡ x → lits' ≡ lits ++ l ∷ []
     → map literal_of (map number lits') ≡ lits'

@@ -1,5 +1,5 @@
 -- How what a reader gives and what is left to it spell what stood at its front.
-use Rattle.std.specs.Prelude.{ℕ, suc, ◌≡◌, ◌+◌, ◌*◌, ◌<◌, ◌≤◌, List, [], map, Option, Some, Result, Ok, Err}
+use Rattle.std.specs.Prelude.{ℕ, ℤ, pos, suc, nat_abs, ◌≡◌, ◌≢◌, ◌+◌, ◌*◌, ◌<◌, ◌≤◌, List, [], map, Option, Some, None, Result, Ok, Err}
 use Rattle.sr_base.specs.Literal.{Literal, number, literal_of, literal_code}
 use Rattle.sr_base.specs.declared.names.Form.{Form}
 use Rattle.sr_base.specs.declared.names.TextKind.{TextKind}
@@ -75,6 +75,15 @@ StopsNumbers (Limit kind) read = read ≡ above kind
 StopsNumbers Source read = Unit {0}
 StopsNumbers NoMemory read = Unit {0}
 
+-- what a token says among literals: one more, their end, or a fault
+abbrev pub SaysLiteral : ℕ → Token → Result (Option Literal) InFault → Type 0
+SaysLiteral bound t (Ok (Some l)) = (t.word ≡ word.Number (number l)) × (number l ≢ pos 0) × (nat_abs (number l) ≤ bound) × (l ≡ literal_of (number l))
+SaysLiteral bound t (Ok None) = t.word ≡ word.Number (pos 0)
+SaysLiteral bound t (Err (Text kind place)) = ((x : ℤ) → t.word ≢ word.Number x) × (kind ≡ misplaced t.word) × (place ≡ t.place)
+SaysLiteral bound t (Err (Limit kind)) = (x : ℤ) × (t.word ≡ word.Number x) × (x ≢ pos 0) × (bound < nat_abs x) × (kind ≡ limit.Vars)
+SaysLiteral bound t (Err Source) = ⊥
+SaysLiteral bound t (Err NoMemory) = ⊥
+
 -- behind a token, these literals and the place of their `0`, which ends one of the open lists
 abbrev pub GivesLiterals : Form → ℕ → ℕ → ℕ → Token → Reader → Reader → Outside → Outside → Result (List Literal × ℕ) InFault → Type 0
 GivesLiterals form lists o bound t old new before after (Ok r) =
@@ -82,3 +91,11 @@ GivesLiterals form lists o bound t old new before after (Ok r) =
     (λ all rest. numbers_after limit.Vars bound [] (next t all) ≡ numbers (map number r.0) r.1 rest)
 GivesLiterals form lists o bound t old new before after (Err e) =
     WhereToldBefore (tokens_left form lists (open_after lists (suc o) t.word) old before) (λ all. StopsNumbers e (numbers_after limit.Vars bound [] (next t all)))
+
+-- behind literals that were read already, these literals with them and the place of their `0`, which ends one of the open lists
+abbrev pub GivesMore : Form → ℕ → ℕ → ℕ → List Literal → Reader → Reader → Outside → Outside → Result (List Literal × ℕ) InFault → Type 0
+GivesMore form lists o bound lits old new before after (Ok r) =
+    WhereTold (tokens_left form lists (suc o) old before) (tokens_left form lists o new after)
+    (λ all rest. numbers_after limit.Vars bound (map number lits) all ≡ numbers (map number r.0) r.1 rest)
+GivesMore form lists o bound lits old new before after (Err e) =
+    WhereToldBefore (tokens_left form lists (suc o) old before) (λ all. StopsNumbers e (numbers_after limit.Vars bound (map number lits) all))

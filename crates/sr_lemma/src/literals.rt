@@ -2,12 +2,12 @@
 //
 // In a binary file those that stand whole in the reader's buffer are taken in one go: the value that spells a
 // literal is its code.
-ghost use Rattle.std.specs.Prelude.{◌≡◌, ◌≢◌, ℕ, ◌<◌, ◌≤◌, pos, unsigned_abs, map, true, IsTrue, IfNone, IfSome, OnSome, IfOk};
+ghost use Rattle.std.specs.Prelude.{◌≡◌, ◌≢◌, ℕ, ◌<◌, ◌≤◌, pos, unsigned_abs, [], map, true, IsTrue, IfNone, IfSome, OnSome, IfOk};
 ghost use Rattle.sr_base.specs.Literal.{number, literal_of};
 ghost use Rattle.sr_base.specs.declared.names.Form.TheVariants.{Binary};
 ghost use Rattle.sr_desk.specs.Outside.{OnlyReads};
 ghost use Rattle.sr_desk.specs.Next.{IsSameReader};
-ghost use Rattle.sr_lemma.specs.Reads.{GivesLiterals, HasInCause, LeadsLiteral, TakesLiterals};
+ghost use Rattle.sr_lemma.specs.Reads.{GivesLiterals, GivesMore, HasInCause, LeadsLiteral, SaysLiteral, TakesLiterals};
 ghost use Rattle.sr_lemma.specs.Told.{literals_told};
 
 use crate::front::{misplaced, next_token};
@@ -101,12 +101,96 @@ fn take_at_hand(
     }
 }
 
-/// The literals up to `0`, of which the first token was read.
+/// The literal that a token says, none at the `0`.
+#[inline(always)]
+fn said_literal(token: &Token, bound: u32) -> Result<Option<Lit>, InFault>
+    requires { bound ≤ 16777215 }
+    ensures { SaysLiteral bound token.now result }
+{
+    let Word::Number(x) = token.word else {
+        return Err(InFault::Text {
+            kind: misplaced(&token.word),
+            place: token.place,
+        });
+    };
+    if x == 0 {
+        return Ok(None);
+    }
+    match literal_within(x, bound) {
+        Some(l) => Ok(Some(l)),
+        None => Err(InFault::Limit(LimitKind::Vars)),
+    }
+}
+
+/// The literals up to `0`, behind those that were read already.
 ///
 /// # Errors
 ///
 /// `Text` at the first token that is no number, and `Limit` at the first variable above the bound; else as
 /// [`next_token`].
+pub fn read_more_literals<D: Desk>(
+    form: Form,
+    bound: u32,
+    mut lits: LitList,
+    reader: &mut ByteReader,
+    desk: &mut D,
+) -> Result<Literals, InFault>
+    requires reads { IsTrue ((D.outside desk.old).slot reader.old.slot).reads }
+    requires bound { bound ≤ 16777215 }
+    ensures literals { (lists open_lists : ℕ) → GivesMore form lists open_lists bound lits reader.old reader.new (D.outside desk.old) (D.outside desk.new) (literals_told result) }
+    ensures named { IfOk result (λ r. map literal_of (map number lits) ≡ lits → map literal_of (map number r.lits) ≡ r.lits) }
+    ensures same { IsSameReader reader.old reader.new }
+    ensures only { OnlyReads reader.old.slot (D.outside desk.old) (D.outside desk.new) }
+    ensures cause { HasInCause reader.old.slot (D.outside desk.old) (D.outside desk.new) result }
+{
+    'tokens: loop {
+        if take_at_hand(form, bound, reader, &mut lits).is_err() {
+            return Err(InFault::NoMemory);
+        }
+        let token = next_token(form, false, reader, desk)?;
+        let Some(l) = said_literal(&token, bound)? else {
+            return Ok(Literals {
+                lits,
+                end: token.place,
+            });
+        };
+        if lits.push(l).is_err() {
+            return Err(InFault::NoMemory);
+        }
+    }
+}
+
+/// The literals up to `0`.
+///
+/// # Errors
+///
+/// As [`read_more_literals`].
+pub fn read_all_literals<D: Desk>(
+    alloc: Global,
+    form: Form,
+    bound: u32,
+    reader: &mut ByteReader,
+    desk: &mut D,
+) -> Result<Literals, InFault>
+    requires reads { IsTrue ((D.outside desk.old).slot reader.old.slot).reads }
+    requires bound { bound ≤ 16777215 }
+    ensures literals { (lists open_lists : ℕ) → GivesMore form lists open_lists bound [] reader.old reader.new (D.outside desk.old) (D.outside desk.new) (literals_told result) }
+    ensures named { IfOk result (λ r. map literal_of (map number r.lits) ≡ r.lits) }
+    ensures same { IsSameReader reader.old reader.new }
+    ensures only { OnlyReads reader.old.slot (D.outside desk.old) (D.outside desk.new) }
+    ensures cause { HasInCause reader.old.slot (D.outside desk.old) (D.outside desk.new) result }
+{
+    let Ok(lits) = Items::with_capacity(alloc, ROOM) else {
+        return Err(InFault::NoMemory);
+    };
+    read_more_literals(form, bound, lits, reader, desk)
+}
+
+/// The literals up to `0`, of which the first token was read.
+///
+/// # Errors
+///
+/// As [`read_more_literals`].
 pub fn read_literals<D: Desk>(
     alloc: Global,
     form: Form,
@@ -123,32 +207,17 @@ pub fn read_literals<D: Desk>(
     ensures only { OnlyReads reader.old.slot (D.outside desk.old) (D.outside desk.new) }
     ensures cause { HasInCause reader.old.slot (D.outside desk.old) (D.outside desk.new) result }
 {
+    let Some(l) = said_literal(&first, bound)? else {
+        return Ok(Literals {
+            lits: Items::new(alloc),
+            end: first.place,
+        });
+    };
     let Ok(mut lits) = Items::with_capacity(alloc, ROOM) else {
         return Err(InFault::NoMemory);
     };
-    let mut token = first;
-    'tokens: loop {
-        let Word::Number(x) = token.word else {
-            return Err(InFault::Text {
-                kind: misplaced(&token.word),
-                place: token.place,
-            });
-        };
-        if x == 0 {
-            return Ok(Literals {
-                lits,
-                end: token.place,
-            });
-        }
-        let Some(l) = literal_within(x, bound) else {
-            return Err(InFault::Limit(LimitKind::Vars));
-        };
-        if lits.push(l).is_err() {
-            return Err(InFault::NoMemory);
-        }
-        if take_at_hand(form, bound, reader, &mut lits).is_err() {
-            return Err(InFault::NoMemory);
-        }
-        token = next_token(form, false, reader, desk)?;
+    if lits.push(l).is_err() {
+        return Err(InFault::NoMemory);
     }
+    read_more_literals(form, bound, lits, reader, desk)
 }

@@ -23,28 +23,8 @@ use Rattle.sr_lsr.proofs.BeginLemmas.{stops_same, HandsOn}
 pub numbered_hands_on : (lim : LimitValues) (id at : ℕ) → HandsOn (kind_at lim id at)
 numbered_hands_on lim id at = record { misspelled = λ kind place. refl; past = refl }
 
-pub literals_hand_on : (lim : LimitValues) (id : ℕ) → HandsOn (λ all. with_literals lim id (numbers_after limit.Vars lim.vars [] all))
-unfolding numbers_after
-literals_hand_on lim id = record { misspelled = λ kind place. refl; past = refl }
-
 pub binary_step_hands_on : (lim : LimitValues) → HandsOn (binary_step_at lim)
 binary_step_hands_on lim = record { misspelled = λ kind place. refl; past = refl }
-
--- a token in front of a list of literals
-pub literals_next : (lim : LimitValues) (id : ℕ) (t : Token) (rest : Texts)
-    → with_literals lim id (numbers_after limit.Vars lim.vars [] (front_word t.place t.word rest)) ≡ with_literals lim id (numbers_after limit.Vars lim.vars [] (next t rest))
-unfolding numbers_after
-literals_next lim id t rest = by t.word
-  where
-    by : (w : Word) → with_literals lim id (numbers_after limit.Vars lim.vars [] (front_word t.place w rest)) ≡ with_literals lim id (numbers_after limit.Vars lim.vars [] (next (record { place = t.place; word = w }) rest))
-    by word.End = refl
-    by (word.Number x) = refl
-    by word.Add = refl
-    by word.Del = refl
-    by word.Header = refl
-    by word.Cnf = refl
-    by word.Percent = refl
-    by word.Other = refl
 
 -- a size that isn't 0
 pub some_size : (x : ℤ) (n ids place : ℕ) → GivesSize x ids place (Ok n) → (n ≡ 0 → ⊥) → x ≡ pos 0 → ⊥

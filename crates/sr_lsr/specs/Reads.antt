@@ -1,5 +1,6 @@
 -- How what a reader gives and what is left to it spell what stood at its front.
 use Rattle.std.specs.Prelude.{ℕ, ◌≡◌, ◌-◌, ◌<◌, ◌≤◌, [], ℤ, pos, ◌<ℤ◌, nat_abs, List, Option, Some, None, Result, Ok, Err}
+use Rattle.sr_base.specs.Literal.{Literal}
 use Rattle.sr_base.specs.Limits.{LimitValues}
 use Rattle.sr_base.specs.declared.names.Form.{Form}
 use Rattle.sr_base.specs.declared.names.LimitKind.TheVariants as limit
@@ -7,7 +8,7 @@ use Rattle.sr_base.specs.declared.names.TextKind.TheVariants.{BadNumber}
 use Rattle.sr_desk.specs.Reader.{Reader}
 use Rattle.sr_model.specs.declared.tokens.Token.{Token}
 use Rattle.sr_model.specs.Texts.{Texts, next}
-use Rattle.sr_model.specs.Lsr.{numbers, numbers_after, prefix_of, groups_of, ItemRead, item, none, misspells, passes, dropped_after, with_literals, kind_at}
+use Rattle.sr_model.specs.Lsr.{numbers, numbers_after, prefix_of, groups_of, ItemRead, item, none, misspells, passes, dropped_after, with_hints, with_literals, kind_at}
 use Rattle.sr_model.specs.LsrBinary.{binary_step_at, item_in}
 use Rattle.sr_wit.specs.LsrItems.{item_of}
 use Rattle.sr_wit.specs.declared.item.LsrItem.{LsrItem}
@@ -48,6 +49,10 @@ GivesOf read old new (Err e) = WhereToldBefore old (λ all. StopsItem e (read al
 -- a deletion, behind what tells it
 abbrev pub GivesDrop : ℕ → ℕ → Option Texts → Option Texts → Result LsrItem InFault → Type 0
 GivesDrop bound id old new result = GivesOf (dropped_after bound id []) old new result
+
+-- a step, behind its literals, of which a `0` at this place is the end
+abbrev pub GivesHintsBehind : LimitValues → ℕ → List Literal → ℕ → Option Texts → Option Texts → Result LsrItem InFault → Type 0
+GivesHintsBehind lim id lits end old new result = GivesOf (λ all. with_hints id lits end (numbers_after limit.Ids lim.ids [] all)) old new result
 
 -- a step, behind its number and the first token of its literals
 abbrev pub GivesStepBehind : LimitValues → ℕ → Token → Option Texts → Option Texts → Result LsrItem InFault → Type 0

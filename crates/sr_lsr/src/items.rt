@@ -7,7 +7,7 @@ ghost use Rattle.sr_model.specs.Judging.{ItemHasPivot};
 ghost use Rattle.sr_wit.specs.LsrItems.{item_of};
 ghost use Rattle.sr_lemma.specs.Left.{tokens_left};
 ghost use Rattle.sr_lemma.specs.Reads.{HasInCause};
-ghost use Rattle.sr_lsr.specs.Reads.{GivesStepBehind, GivesNumbered, GivesLiteralsBehind, GivesBinaryStep, GivesItemBehind, GivesItem, TakesSome};
+ghost use Rattle.sr_lsr.specs.Reads.{GivesHintsBehind, GivesStepBehind, GivesNumbered, GivesLiteralsBehind, GivesBinaryStep, GivesItemBehind, GivesItem, TakesSome};
 ghost use Rattle.sr_lsr.specs.Written.{IsSmall, IsSmallItem};
 
 use crate::drops::read_drop;
@@ -16,15 +16,38 @@ use crate::sizes::size_within;
 use crate::steps::make_step;
 use sr_base::{Form, Limits, TextKind};
 use sr_desk::{ByteReader, Desk};
-use sr_lemma::{misplaced, next_token, read_literals};
+use sr_lemma::{Literals, misplaced, next_token, read_all_literals, read_literals};
 use sr_model::{Token, Word};
 use sr_wit::{InFault, LsrItem};
 use std::alloc::Global;
 
-/// The step whose number and first literal were read.
-fn read_step<D: Desk>(
+/// The step whose number and literals were read.
+fn finish_step<D: Desk>(
     alloc: Global,
     form: Form,
+    id: u32,
+    literals: Literals,
+    reader: &mut ByteReader,
+    desk: &mut D,
+    limits: &Limits,
+) -> Result<LsrItem, InFault>
+    requires reads { IsTrue ((D.outside desk.old).slot reader.old.slot).reads }
+    requires id { IsSmall id }
+    ensures item { GivesHintsBehind limits.now id literals.lits literals.end (tokens_left form 2 1 reader.old (D.outside desk.old)) (tokens_left form 2 0 reader.new (D.outside desk.new)) result }
+    ensures small { IfOk result (λ x. IsSmallItem (item_of x)) }
+    ensures pivot { IfOk result (λ x. ItemHasPivot (item_of x)) }
+    ensures same { IsSameReader reader.old reader.new }
+    ensures only { OnlyReads reader.old.slot (D.outside desk.old) (D.outside desk.new) }
+    ensures cause { HasInCause reader.old.slot (D.outside desk.old) (D.outside desk.new) result }
+{
+    let hints = read_hints(alloc, form, limits.ids(), reader, desk)?;
+    let step = make_step(alloc, id, literals.lits, literals.end, hints)?;
+    Ok(LsrItem::Step(step))
+}
+
+/// The step of a text whose number and first literal were read.
+fn read_text_step<D: Desk>(
+    alloc: Global,
     id: u32,
     first: Token,
     reader: &mut ByteReader,
@@ -33,17 +56,15 @@ fn read_step<D: Desk>(
 ) -> Result<LsrItem, InFault>
     requires reads { IsTrue ((D.outside desk.old).slot reader.old.slot).reads }
     requires id { IsSmall id }
-    ensures item { GivesStepBehind limits.now id first (tokens_left form 2 (open_after 2 2 first.word) reader.old (D.outside desk.old)) (tokens_left form 2 0 reader.new (D.outside desk.new)) result }
+    ensures item { GivesStepBehind limits.now id first (tokens_left Form.Text 2 (open_after 2 2 first.word) reader.old (D.outside desk.old)) (tokens_left Form.Text 2 0 reader.new (D.outside desk.new)) result }
     ensures small { IfOk result (λ x. IsSmallItem (item_of x)) }
     ensures pivot { IfOk result (λ x. ItemHasPivot (item_of x)) }
     ensures same { IsSameReader reader.old reader.new }
     ensures only { OnlyReads reader.old.slot (D.outside desk.old) (D.outside desk.new) }
     ensures cause { HasInCause reader.old.slot (D.outside desk.old) (D.outside desk.new) result }
 {
-    let literals = read_literals(alloc, form, limits.vars(), first, reader, desk)?;
-    let hints = read_hints(alloc, form, limits.ids(), reader, desk)?;
-    let step = make_step(alloc, id, literals.lits, literals.end, hints)?;
-    Ok(LsrItem::Step(step))
+    let literals = read_literals(alloc, Form::Text, limits.vars(), first, reader, desk)?;
+    finish_step(alloc, Form::Text, id, literals, reader, desk, limits)
 }
 
 /// The item of a text whose number was read, from this place.
@@ -74,7 +95,7 @@ fn read_numbered<D: Desk>(
                     place,
                 });
             }
-            read_step(alloc, Form::Text, id, token, reader, desk, limits)
+            read_text_step(alloc, id, token, reader, desk, limits)
         }
         _ => Err(InFault::Text {
             kind: misplaced(&token.word),
@@ -133,8 +154,8 @@ fn read_binary_literals<D: Desk>(
     ensures only { OnlyReads reader.old.slot (D.outside desk.old) (D.outside desk.new) }
     ensures cause { HasInCause reader.old.slot (D.outside desk.old) (D.outside desk.new) result }
 {
-    let first = next_token(Form::Binary, false, reader, desk)?;
-    read_step(alloc, Form::Binary, id, first, reader, desk, limits)
+    let literals = read_all_literals(alloc, Form::Binary, limits.vars(), reader, desk)?;
+    finish_step(alloc, Form::Binary, id, literals, reader, desk, limits)
 }
 
 /// The step behind the byte that tells it: its number comes first.

@@ -16,15 +16,15 @@ pub returns-in-Ok-clause-line : goal.returns-in-Ok-clause-line
 returns-in-Ok-clause-line g c =
     line_by (λ all. line_in Text c.args.limits.now (front_word c.args.token.place c.args.token.word all))
     (λ all. with_lemma (numbers_after limit.Vars c.args.limits.now.vars [] (next c.args.token all)))
-    (tokens_left Text 1 0 c.args.reader.now (g.D.Desk.outside c.args.desk.now)) (tokens_left Text 1 0 c.read_lemma.new.reader (g.D.Desk.outside c.read_lemma.new.desk)) c.in-Ok.line
+    (tokens_left Text 1 0 c.args.reader.now (g.D.Desk.outside c.args.desk.now)) (tokens_left Text 1 0 c.read_text_lemma.new.reader (g.D.Desk.outside c.read_text_lemma.new.desk)) c.in-Ok.line
     (λ all. text_number c.args.limits.now c.args.token c.in-Number.field-0 all c.in-Number.is) c.in-Ok.ensures.line
 
 pub returns-in-Err-clause-line : goal.returns-in-Err-clause-line
 returns-in-Err-clause-line g c =
     fault_by (λ all. line_in Text c.args.limits.now (front_word c.args.token.place c.args.token.word all))
     (λ all. with_lemma (numbers_after limit.Vars c.args.limits.now.vars [] (next c.args.token all)))
-    (tokens_left Text 1 0 c.args.reader.now (g.D.Desk.outside c.args.desk.now)) (tokens_left Text 1 0 c.read_lemma.new.reader (g.D.Desk.outside c.read_lemma.new.desk))
-    (tokens_left Text 1 0 c.read_lemma.new.reader (g.D.Desk.outside c.read_lemma.new.desk)) c.in-Err.fault
+    (tokens_left Text 1 0 c.args.reader.now (g.D.Desk.outside c.args.desk.now)) (tokens_left Text 1 0 c.read_text_lemma.new.reader (g.D.Desk.outside c.read_text_lemma.new.desk))
+    (tokens_left Text 1 0 c.read_text_lemma.new.reader (g.D.Desk.outside c.read_text_lemma.new.desk)) c.in-Err.fault
     (λ all. text_number c.args.limits.now c.args.token c.in-Number.field-0 all c.in-Number.is) c.in-Err.ensures.line
 
 pub returns-in-Ok-read_deletion-clause-line : goal.returns-in-Ok-read_deletion-clause-line

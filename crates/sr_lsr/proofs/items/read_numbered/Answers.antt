@@ -31,8 +31,8 @@ returns-else-id-eq0-clause-item g c =
     begun (kind_at c.args.limits.now c.args.id c.args.place)
     (λ all. with_literals c.args.limits.now c.args.id (numbers_after limit.Vars c.args.limits.now.vars [] (next c.in_ok-token.token all))) Text 2 (open_after 2 2 c.in_ok-token.token.word) c.in_ok-token.token
     c.args.reader.now c.next_token.new.reader (g.D.Desk.outside c.args.desk.now) (g.D.Desk.outside c.next_token.new.desk)
-    (tokens_left Text 2 0 c.read_step.new.reader (g.D.Desk.outside c.read_step.new.desk)) c.read_step.result (c.in_ok-token.ensures.token 2 2 (omega arith)) refl
-    (λ rest. kind_step c.args.limits.now c.args.id c.args.place c.in_ok-token.token c.in-Number.field-0 rest c.in-Number.is c.if-id-eq0.false) c.read_step.ensures.item
+    (tokens_left Text 2 0 c.read_text_step.new.reader (g.D.Desk.outside c.read_text_step.new.desk)) c.read_text_step.result (c.in_ok-token.ensures.token 2 2 (omega arith)) refl
+    (λ rest. kind_step c.args.limits.now c.args.id c.args.place c.in_ok-token.token c.in-Number.field-0 rest c.in-Number.is c.if-id-eq0.false) c.read_text_step.ensures.item
 
 pub returns-in_default-clause-item : goal.returns-in_default-clause-item
 returns-in_default-clause-item g c =
