@@ -7,7 +7,7 @@ use Rattle.std.proofs.lemmas.Bool.Decides.{nat_tests}
 use Rattle.std.proofs.lemmas.List.{take_rest}
 use Rattle.std.proofs.lemmas.List.Elements.{All-cons, All-head, All-tail, All-push}
 use Rattle.sr_base.specs.declared.names.Form.{Form}
-use Rattle.sr_base.specs.declared.names.Form.TheVariants.{Binary}
+use Rattle.sr_base.specs.declared.names.Form.TheVariants as form
 use Rattle.sr_base.specs.declared.names.LimitKind.TheVariants as limit
 use Rattle.sr_desk.specs.Outside.{Outside}
 use Rattle.sr_desk.specs.Reader.{Reader, buffered, skipped}
@@ -16,6 +16,7 @@ use Rattle.sr_model.specs.declared.tokens.Token.{Token}
 use Rattle.sr_model.specs.Texts.{Texts, next}
 use Rattle.sr_model.specs.Binary.{open_after}
 use Rattle.sr_model.specs.Meeting.{Group}
+use Rattle.sr_model.specs.Words.{signed}
 use Rattle.sr_model.specs.Lsr.{numbers_after, by_number, prefix_of, groups_of}
 use Rattle.sr_scan.specs.Binary.{value_word}
 use Rattle.sr_wit.specs.declared.fault.InFault.{InFault}
@@ -25,10 +26,15 @@ use Rattle.sr_lemma.specs.Left.{tokens_left}
 use Rattle.sr_lemma.specs.Reads.{misplaced, WhereTold, StopsNumbers, GivesFront}
 use Rattle.sr_lemma.proofs.NumberLemmas.{at_number, at_default, by_number_more, by_number_above, front_next, front_stop, open_number, open_zero}
 use Rattle.sr_lemma.proofs.RunLemmas.{run_front}
+use Rattle.sr_lemma.proofs.TextRunLemmas.{text_run_front}
+use Rattle.sr_scan.specs.BinaryLeft.{LeadsValue}
+use Rattle.sr_scan.specs.Front.{LeadsNumber}
+use Rattle.sr_scan.specs.Left.{StandsFirst}
+use Rattle.sr_lsr.specs.declared.hints.Hint.{Hint}
 use Rattle.sr_lsr.specs.declared.hints.LeadingHint.{LeadingHint}
 use Rattle.sr_lsr.specs.declared.hints.Hints.{Hints}
 use Rattle.sr_lsr.specs.Written.{IsSmall, IsSmallGroup}
-use Rattle.sr_lsr.specs.Told.{signed, hint_number, Spells, SpellsMore, LeadsHint, GoesOn}
+use Rattle.sr_lsr.specs.Told.{hint_number, Spells, SpellsMore, IsHintOf, SpellsNumber, LeadsHint, GoesOn}
 use Rattle.sr_lsr.specs.Reads.{GivesHints}
 
 -- the hints that were read and what is left spell what stood at the front
@@ -151,31 +157,55 @@ value_says v size b small half some odd = go (v % 2 == 0) refl
 skipped-none : (r : Reader) → skipped r 0 ≡ r
 skipped-none r = let e : r.taken + 0 ≡ r.taken = omega arith in rw e refl
 
-pub run_none : (bound : ℕ) (r : Reader) (o : Outside) (lists open_lists : ℕ) (hints : Hints)
-    → GoesOn bound (tokens_left Binary lists open_lists r o) (tokens_left Binary lists open_lists (skipped r 0) o) hints hints
-run_none bound r o lists open_lists hints these s all h =
-    (all, ap (λ (r : Reader). tokens_left Binary lists open_lists r o) (skipped-none r) ∙ h, (these, refl, s))
+pub run_none : (form : Form) (bound : ℕ) (r : Reader) (o : Outside) (lists open_lists : ℕ) (hints : Hints)
+    → GoesOn bound (tokens_left form lists open_lists r o) (tokens_left form lists open_lists (skipped r 0) o) hints hints
+run_none form bound r o lists open_lists hints these s all h =
+    (all, ap (λ (r : Reader). tokens_left form lists open_lists r o) (skipped-none r) ∙ h, (these, refl, s))
 
-pub leads_at : (r : Reader) (bytes : List ℕ) (at bound : ℕ) (front : LeadingHint) → bytes ≡ buffered r → LeadsHint (take (length bytes - at) (drop at bytes)) bound front → LeadsHint (drop at (buffered r)) bound front
-leads_at r bytes at bound front is leads = rw is at (rw take_rest at leads)
+-- the hint of a number at the front
+pub leads_text : (bytes : List ℕ) (bound len size : ℕ) (negative : Bool) (hint : Hint) → LeadsNumber bytes len size negative → IsHintOf size negative bound hint
+    → LeadsHint form.Text bytes bound (record { len = len; hint = hint })
+leads_text bytes bound len size negative hint leads is =
+    record { spells = rw (is.size_is, is.sign_is) leads; len_within = leads.within; some = is.some; within = is.within }
+
+pub leads_binary : (bytes : List ℕ) (bound len v : ℕ) (hint : Hint) → LeadsValue bytes len v → IsHintOf (v / 2) (v % 2 == 1) bound hint → LeadsHint form.Binary bytes bound (record { len = len; hint = hint })
+leads_binary bytes bound len v hint leads is =
+    record { spells = (v, leads, value_says v hint.size hint.begins_group leads.small is.size_is is.some is.sign_is); len_within = leads.within; some = is.some; within = is.within }
+
+pub leads_at : (form : Form) (r : Reader) (bytes : List ℕ) (at bound : ℕ) (front : LeadingHint) → bytes ≡ buffered r → LeadsHint form (take (length bytes - at) (drop at bytes)) bound front
+    → LeadsHint form (drop at (buffered r)) bound front
+leads_at form r bytes at bound front is leads = rw is at (rw take_rest at leads)
 
 open-stays : (lists open_lists : ℕ) (x : ℤ) → 0 < open_lists → (x ≡ pos 0 → ⊥) → open_after lists open_lists (word.Number x) ≡ open_lists
 open-stays lists zero x some ne = absurd (omega arith)
 open-stays lists (suc k) x some ne = open_number lists k (word.Number x) x refl ne
 
-pub run_more : (bound : ℕ) (r : Reader) (at : ℕ) (front : LeadingHint) (first : Option Texts) (o : Outside) (lists open_lists : ℕ) (start hints hints' : Hints)
-    → LeadsHint (drop at (buffered r)) bound front → at ≤ length (buffered r) → 0 < open_lists → SpellsMore hints hints' (hint_number front.hint)
-    → GoesOn bound first (tokens_left Binary lists open_lists (skipped r at) o) start hints
-    → GoesOn bound first (tokens_left Binary lists open_lists (skipped r (at + front.len)) o) start hints'
-run_more bound r at front first o lists open_lists start hints hints' leads le some more inv these s all h =
+-- a number behind those that were taken stands first among the tokens that are left
+number_first : (form : Form) (r : Reader) (at len size : ℕ) (negative : Bool) (o : Outside) (lists open_lists : ℕ) → SpellsNumber form (drop at (buffered r)) len size negative → size ≢ 0
+    → at ≤ length (buffered r) → 0 < open_lists
+    → (place : ℕ) × StandsFirst (tokens_left form lists open_lists (skipped r at) o) (tokens_left form lists open_lists (skipped r (at + len)) o) place (word.Number (signed negative size))
+number_first form.Text r at len size negative o lists open_lists spells ne le some = (r.taken + at + spells.start, text_run_front r at len size negative o lists open_lists open_lists spells le)
+number_first form.Binary r at len size negative o lists open_lists spells ne le some =
+    let x : ℤ = signed negative size in
+    let stays = open-stays lists open_lists x some (signed-some negative size ne) in (
+      r.taken + at,
+      rw stays at (run_front r at len spells.0 (word.Number x) o lists open_lists spells.1 spells.2 some le),
+    )
+
+pub run_more : (form : Form) (bound : ℕ) (r : Reader) (at : ℕ) (front : LeadingHint) (first : Option Texts) (o : Outside) (lists open_lists : ℕ) (start hints hints' : Hints)
+    → LeadsHint form (drop at (buffered r)) bound front → at ≤ length (buffered r) → 0 < open_lists → SpellsMore hints hints' (hint_number front.hint)
+    → GoesOn bound first (tokens_left form lists open_lists (skipped r at) o) start hints
+    → GoesOn bound first (tokens_left form lists open_lists (skipped r (at + front.len)) o) start hints'
+run_more form bound r at front first o lists open_lists start hints hints' leads le some more inv these s all h =
     let g = inv these s all h in
     let x : ℤ = hint_number front.hint in
-    let t : Token = record { place = r.taken + at; word = word.Number x } in
     let ne : x ≡ pos 0 → ⊥ = signed-some front.hint.begins_group front.hint.size leads.some in
     let within : nat_abs x ≤ bound = rw (signed-size front.hint.begins_group front.hint.size leads.some) leads.within in
-    let f = run_front r at front.len leads.value t.word o lists open_lists leads.leads leads.says some le g.0 g.1 in (
+    let stands = number_first form r at front.len front.hint.size front.hint.begins_group o lists open_lists leads.spells leads.some le some in
+    let t : Token = record { place = stands.0; word = word.Number x } in
+    let f = stands.1 g.0 g.1 in (
       f.0,
-      ap (λ (k : ℕ). tokens_left Binary lists k (skipped r (at + front.len)) o) (sym (open-stays lists open_lists x some ne)) ∙ f.2,
+      f.2,
       (
         g.2.0 ++ x ∷ [],
         g.2.1 ∙ ap (numbers_after limit.Ids bound g.2.0) f.1 ∙ at_number limit.Ids bound g.2.0 t x f.0 refl

@@ -1,11 +1,15 @@
 -- What the structs of the code hold.
-use Rattle.std.specs.Prelude.{ℕ, ℤ, pos, negsuc, ◌≡◌, ◌≢◌, ◌-◌, ◌≤◌, ◌∷◌, ◌++◌, [], List, Bool, true, false, Option, Result, Ok, Err, All}
+use Rattle.std.specs.Prelude.{ℕ, ℤ, ◌≡◌, ◌≢◌, ◌≤◌, ◌∷◌, ◌++◌, [], List, length, Bool, Option, Result, Ok, Err, All}
+use Rattle.sr_base.specs.declared.names.Form.{Form}
+use Rattle.sr_base.specs.declared.names.Form.TheVariants.{Text, Binary}
 use Rattle.sr_base.specs.declared.names.LimitKind.TheVariants as limit
 use Rattle.sr_model.specs.declared.tokens.Word.TheVariants as word
 use Rattle.sr_model.specs.Texts.{Texts}
+use Rattle.sr_model.specs.Words.{signed}
 use Rattle.sr_model.specs.Lsr.{numbers_after, prefix_of, groups_of}
 use Rattle.sr_scan.specs.Binary.{value_word}
 use Rattle.sr_scan.specs.BinaryLeft.{LeadsValue}
+use Rattle.sr_scan.specs.Front.{LeadsNumber}
 use Rattle.sr_wit.specs.declared.fault.InFault.{InFault}
 use Rattle.sr_lemma.specs.Reads.{WhereTold}
 use Rattle.sr_lsr.specs.declared.hints.Hint.{Hint}
@@ -20,11 +24,6 @@ hints_told (Err e) = Err e
 abbrev pub IsFresh : Hints → Type 0
 IsFresh h = (h.prefix ≡ []) × (h.groups ≡ [])
 
--- the number of a size, negative or positive
-abbrev pub signed : Bool → ℕ → ℤ
-signed true n = negsuc (n - 1)
-signed false n = pos n
-
 abbrev pub hint_number : Hint → ℤ
 hint_number h = signed h.begins_group h.size
 
@@ -36,11 +35,22 @@ Spells these h = (prefix_of these ≡ h.prefix) × (groups_of these ≡ h.groups
 abbrev pub SpellsMore : Hints → Hints → ℤ → Type 0
 SpellsMore old new x = (these : List ℤ) → Spells these old → Spells (these ++ x ∷ []) new
 
+-- the hint of a number that isn't 0 and is at most the bound
+pub record IsHintOf (size : ℕ) (negative : Bool) (bound : ℕ) (hint : Hint) : Type 0 where
+  pub size_is : hint.size ≡ size
+  pub sign_is : hint.begins_group ≡ negative
+  pub some : hint.size ≢ 0
+  pub within : hint.size ≤ bound
+
+-- the first bytes spell a number, with what parts it from others
+abbrev pub SpellsNumber : Form → List ℕ → ℕ → ℕ → Bool → Type 0
+SpellsNumber Text bytes len size negative = LeadsNumber bytes len size negative
+SpellsNumber Binary bytes len size negative = (value : ℕ) × LeadsValue bytes len value × (value_word value ≡ Ok (word.Number (signed negative size)))
+
 -- the first bytes spell the hint, which is at most the bound
-pub record LeadsHint (bytes : List ℕ) (bound : ℕ) (front : LeadingHint) : Type 0 where
-  pub value : ℕ
-  pub leads : LeadsValue bytes front.len value
-  pub says : value_word value ≡ Ok (word.Number (hint_number front.hint))
+pub record LeadsHint (form : Form) (bytes : List ℕ) (bound : ℕ) (front : LeadingHint) : Type 0 where
+  pub spells : SpellsNumber form bytes front.len front.hint.size front.hint.begins_group
+  pub len_within : front.len ≤ length bytes
   pub some : front.hint.size ≢ 0
   pub within : front.hint.size ≤ bound
 

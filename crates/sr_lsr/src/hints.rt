@@ -1,20 +1,20 @@
 // The hints of a step: its prefix, and groups, each of which a negative number begins.
 //
-// In a binary file nearly all of them stand whole in the reader's buffer, so a run of them is read there by one loop; what
-// ends the run is read as a token.
+// Nearly all of them stand whole in the reader's buffer, so a run of them is read there by one loop; what ends the run is
+// read as a token.
 ghost use Rattle.std.specs.Prelude.{◌≡◌, ◌≢◌, ◌≤◌, ◌<◌, ℕ, [], unsigned_abs, true, IsTrue, IfOk, IfSome, OnOk};
 ghost use Rattle.sr_desk.specs.Outside.{Outside, OnlyReads};
 ghost use Rattle.sr_desk.specs.Next.{IsSameReader};
 ghost use Rattle.sr_lemma.specs.Left.{tokens_left};
 ghost use Rattle.sr_lemma.specs.Reads.{HasInCause};
 ghost use Rattle.sr_lsr.specs.Reads.{GivesHints};
-ghost use Rattle.sr_lsr.specs.Told.{hints_told, hint_number, SpellsMore, KeepsSmall, AreSmall, LeadsHint, GoesOn, IsFresh};
+ghost use Rattle.sr_lsr.specs.Told.{hints_told, hint_number, SpellsMore, KeepsSmall, AreSmall, IsHintOf, LeadsHint, GoesOn, IsFresh};
 
 use sr_base::{Form, IdList, Items, LimitKind, NoMemory};
 use sr_desk::{ByteReader, Desk};
 use sr_lemma::{misplaced, next_token};
 use sr_model::Word;
-use sr_scan::short_value;
+use sr_scan::{short_value, text_number};
 use sr_wit::{GroupList, InFault};
 use std::alloc::Global;
 
@@ -70,35 +70,58 @@ impl Hints {
     }
 }
 
-/// The hint at the front of some bytes of a binary file, where it has few bytes and is at most the bound.
+/// The hint of a number, where it isn't 0 and is at most the bound.
 #[inline(always)]
-fn hint_front(bytes: &[u8], bound: u32) -> Option<LeadingHint>
-    ensures { IfSome result (LeadsHint bytes.now bound) }
+fn hint_of(size: u64, negative: bool, bound: u32) -> Option<Hint>
+    ensures { IfSome result (IsHintOf size negative bound) }
 {
-    let front = short_value(bytes)?;
-    let size = front.value / 2;
     if size == 0 || size > u64::from(bound) {
         return None;
     }
-    let hint = Hint {
+    Some(Hint {
         size: size as u32,
-        begins_group: front.value % 2 == 1,
-    };
-    Some(LeadingHint {
-        len: front.len,
-        hint,
+        begins_group: negative,
     })
 }
 
+/// The hint at the front of some bytes, where it is short and at most the bound.
+#[inline(always)]
+fn hint_front(form: Form, bytes: &[u8], bound: u32) -> Option<LeadingHint>
+    ensures { IfSome result (LeadsHint form bytes.now bound) }
+{
+    match form {
+        Form::Text => {
+            let front = text_number(bytes)?;
+            Some(LeadingHint {
+                len: front.len,
+                hint: hint_of(front.size, front.negative, bound)?,
+            })
+        }
+        Form::Binary => {
+            let front = short_value(bytes)?;
+            Some(LeadingHint {
+                len: front.len,
+                hint: hint_of(front.value / 2, front.value % 2 == 1, bound)?,
+            })
+        }
+    }
+}
+
 /// Takes the hints at the front of the bytes at hand.
-fn take_hints(bound: u32, reader: &mut ByteReader, hints: &mut Hints) -> Result<(), NoMemory>
-    ensures spells { OnOk result ((o : Outside) (lists open_lists : ℕ) → 0 < open_lists → GoesOn bound (tokens_left Form.Binary lists open_lists reader.old o) (tokens_left Form.Binary lists open_lists reader.new o) hints.old hints.new) }
+#[inline(always)]
+fn take_hints(
+    form: Form,
+    bound: u32,
+    reader: &mut ByteReader,
+    hints: &mut Hints,
+) -> Result<(), NoMemory>
+    ensures spells { OnOk result ((o : Outside) (lists open_lists : ℕ) → 0 < open_lists → GoesOn bound (tokens_left form lists open_lists reader.old o) (tokens_left form lists open_lists reader.new o) hints.old hints.new) }
     ensures small { OnOk result (KeepsSmall hints.old hints.new bound) }
     ensures same { IsSameReader reader.old reader.new }
 {
     let bytes = reader.buffered();
     let mut at = 0;
-    'hints: while let Some(front) = hint_front(&bytes[at..], bound) {
+    'hints: while let Some(front) = hint_front(form, &bytes[at..], bound) {
         hints.add(front.hint)?;
         at += front.len;
     }
@@ -106,7 +129,7 @@ fn take_hints(bound: u32, reader: &mut ByteReader, hints: &mut Hints) -> Result<
     Ok(())
 }
 
-/// Takes the hints at hand, where they are binary.
+/// Takes the hints at hand, by a loop for each form.
 #[inline(always)]
 fn take_ahead(
     form: Form,
@@ -119,8 +142,8 @@ fn take_ahead(
     ensures same { IsSameReader reader.old reader.new }
 {
     match form {
-        Form::Text => Ok(()),
-        Form::Binary => take_hints(bound, reader, hints),
+        Form::Text => take_hints(Form::Text, bound, reader, hints),
+        Form::Binary => take_hints(Form::Binary, bound, reader, hints),
     }
 }
 

@@ -1,13 +1,15 @@
 -- Facts on tokens that stand whole in some bytes.
-use Rattle.std.proofs.Common.{◌≡◌, ◌∙◌, ℕ, ◌+◌, ◌-◌, ◌*◌, ◌<◌, ◌≤◌, ◌≢◌, ◌^◌, zero, suc, Ok, Bool, true, false, refl, sym, subst, List, [], ◌∷◌, ◌++◌, length, length-take, take, drop, get_or, ◌==◌, arith}
+use Rattle.std.proofs.Common.{◌≡◌, ◌∙◌, ℕ, ◌+◌, ◌-◌, ◌*◌, ◌<◌, ◌≤◌, ◌≢◌, ◌^◌, zero, suc, Ok, Bool, true, false, refl, sym, ap, subst, List, [], ◌∷◌, ◌++◌, length, length-take, take, drop, length-drop, get_or, ◌==◌, arith}
 use Rattle.std.specs.List.{list_all}
-use Rattle.std.proofs.lemmas.List.{take_more}
-use Rattle.std.proofs.Math.Seq.{take-length}
-use Rattle.std.proofs.lemmas.List.Folds.{list_all_more}
+use Rattle.std.proofs.lemmas.List.{take_more, take_rest}
+use Rattle.std.proofs.Math.Nat.{pow-suc, pow-le-pow_right}
+use Rattle.std.proofs.Math.Seq.{take-length, take-add}
+use Rattle.std.proofs.lemmas.List.Folds.{list_all_more, list_all-append}
 use Rattle.std.proofs.lemmas.Bool.Decides.{nat_tests}
+use Rattle.sr_desk.proofs.BufferLemmas.{drop-drop}
 use Rattle.sr_model.specs.Words.{is_white, is_digit, value_after, signed, number_word, number_by, said_by}
 use Rattle.sr_model.specs.declared.tokens.Word.TheVariants as word
-use Rattle.sr_scan.specs.Front.{is_dark, ends_at, Leads}
+use Rattle.sr_scan.specs.Front.{is_dark, ends_at, Leads, LeadsNumber}
 
 pub value-push : (n : ℕ) (xs : List ℕ) (b : ℕ) → value_after n (xs ++ b ∷ []) ≡ 10 * value_after n xs + (b - 48)
 value-push n [] b = refl
@@ -95,6 +97,18 @@ leads_negative bs len size le h e lt some end =
     filled zero z = absurd (let none : size ≡ 0 = e ∙ rw z refl in omega arith)
     filled (suc k) z = simp length-take (omega arith)
 
+-- so many digits stay below a power of ten
+pub ten_times : (len size d : ℕ) → size < 10 ^ len → d ≤ 9 → 10 * size + d < 10 ^ (len + 1)
+ten_times len size d small low =
+    let next : len + 1 ≡ suc len = omega arith in
+    let power : 10 ^ (len + 1) ≡ 10 ^ len * 10 = ap (λ (n : ℕ). 10 ^ n) next ∙ pow-suc 10 len in
+    omega (arith, power, small, low)
+
+pub below_wide : (len size : ℕ) → len ≤ 10 → size < 10 ^ len → size < 2 ^ 63
+below_wide len size few small =
+    let most : 10 ^ len ≤ 10 ^ 10 = let some : 0 < 10 = omega arith in pow-le-pow_right some few in
+    omega (arith, most, small)
+
 pub digit-below : (b : ℕ) → is_digit b ≡ true → b ≤ 57
 digit-below b h = grind (arith, nat_tests)
 
@@ -112,3 +126,33 @@ leads_signed bytes len size some sign le h e lt ne end =
     let bs : List ℕ = take (length bytes - 1) (drop 1 bytes) in
     let split : bytes ≡ 45 ∷ bs = first-rest bytes 45 some sign in
     subst (λ (b : List ℕ). ends_at b (len + 1) ≡ true → Leads b (len + 1) (word.Number (signed true size))) (sym split) (leads_negative bs len size le h e lt (omega (arith, ne))) end
+
+-- a number at the front, with no white space before it
+pub leads_number : (bytes : List ℕ) (digits len size : ℕ) (negative : Bool) → Leads bytes digits (word.Number (signed negative size)) → len ≡ digits + 1 → size < 2 ^ 63 → LeadsNumber bytes len size negative
+leads_number bytes digits len size negative leads len_is small =
+    let inside : digits < length bytes = leads.within in
+    record {
+      start = 0;
+      digits = digits;
+      blank = refl;
+      leads = leads;
+      len_is = omega (arith, len_is);
+      within = omega (arith, len_is, inside);
+      small = small;
+    }
+
+-- and behind some
+pub leads_behind : (bytes : List ℕ) (start len size : ℕ) (negative : Bool) → start ≤ length bytes → list_all is_white (take start bytes) ≡ true
+    → LeadsNumber (take (length bytes - start) (drop start bytes)) len size negative → LeadsNumber bytes (start + len) size negative
+leads_behind bytes start len size negative le blank number = behind (rw take_rest at number)
+  where
+    behind : LeadsNumber (drop start bytes) len size negative → LeadsNumber bytes (start + len) size negative
+    behind n = record {
+      start = start + n.start;
+      digits = n.digits;
+      blank = rw (take-add start n.start bytes, list_all-append is_white (take start bytes) (take n.start (drop start bytes)), blank, n.blank) refl;
+      leads = rw (drop-drop start n.start bytes) at n.leads;
+      len_is = omega (arith, n.len_is);
+      within = omega (arith, simp length-drop at n.within);
+      small = n.small;
+    }

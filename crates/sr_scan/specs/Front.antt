@@ -1,9 +1,9 @@
 -- A token that stands whole at the front of some bytes.
-use Rattle.std.specs.Prelude.{◌≡◌, ◌≢◌, ℕ, ◌<◌, ◌&&◌, nat_lt, not, Bool, true, false, List, length, take, Ok, slice_index}
+use Rattle.std.specs.Prelude.{◌≡◌, ◌≢◌, ℕ, ◌+◌, ◌<◌, ◌≤◌, ◌^◌, ◌&&◌, nat_lt, not, Bool, true, false, List, length, take, drop, Ok, slice_index}
 use Rattle.std.specs.List.{list_all}
 use Rattle.sr_model.specs.declared.tokens.Word.{Word}
-use Rattle.sr_model.specs.declared.tokens.Word.TheVariants.{End}
-use Rattle.sr_model.specs.Words.{is_white, said_by}
+use Rattle.sr_model.specs.declared.tokens.Word.TheVariants.{End, Number}
+use Rattle.sr_model.specs.Words.{is_white, signed, said_by}
 
 abbrev pub is_dark : ℕ → Bool
 is_dark b = not (is_white b)
@@ -25,3 +25,13 @@ pub record Leads (bytes : List ℕ) (len : ℕ) (w : Word) : Type 0 where
   pub first : slice_index bytes 0 ≢ 99
   pub says : said_by (take len bytes) ≡ Ok w
   pub word : is_end w ≡ false
+
+-- the first bytes are white space, a number and the white byte that ends it
+pub record LeadsNumber (bytes : List ℕ) (len size : ℕ) (negative : Bool) : Type 0 where
+  pub start : ℕ
+  pub digits : ℕ
+  pub blank : list_all is_white (take start bytes) ≡ true
+  pub leads : Leads (drop start bytes) digits (Number (signed negative size))
+  pub len_is : len ≡ start + digits + 1
+  pub within : len ≤ length bytes
+  pub small : size < 2 ^ 63

@@ -5,7 +5,7 @@
 ghost use Rattle.std.specs.Prelude.{◌≡◌, ◌<◌, ◌≤◌, ◌^◌, true, false, length, take, IfSome, slice_index, IsTrue, ◌↔◌};
 ghost use Rattle.std.specs.List.{list_all};
 ghost use Rattle.sr_model.specs.Words.{is_white, is_digit, value_after, signed};
-ghost use Rattle.sr_scan.specs.Front.{Leads, ends_at};
+ghost use Rattle.sr_scan.specs.Front.{Leads, LeadsNumber, ends_at};
 
 use crate::lexeme::{is_digit, is_white};
 use sr_model::Word;
@@ -25,6 +25,18 @@ pub(crate) struct Leading {
 struct Digits {
     len: usize,
     size: u64,
+}
+
+/// Few numbers have more digits.
+const FEW: usize = 10;
+
+/// A number at the front of some bytes of a text: how many bytes it takes, with the white space before it and the white
+/// byte behind it, and its size and sign.
+#[derive(Clone, Copy, Debug, PartialEq, Eq)]
+pub struct TextNumber {
+    pub len: usize,
+    pub size: u64,
+    pub negative: bool,
 }
 
 /// How many bytes of white space stand at the front.
@@ -142,4 +154,77 @@ fn digits_at(bytes: &[u8]) -> Digits
         len += 1;
     }
     Digits { len, size }
+}
+
+/// Up to ten digits at the front.
+#[inline(always)]
+fn few_digits(bytes: &[u8]) -> Digits
+    requires { FEW ≤ length bytes.now }
+    ensures within { result.len ≤ length bytes.now }
+    ensures digits { list_all is_digit (take result.len bytes.now) ≡ true }
+    ensures size { result.size ≡ value_after 0 (take result.len bytes.now) }
+    ensures small { result.size < 2 ^ 63 }
+{
+    let mut len = 0;
+    let mut size: u64 = 0;
+    while len < FEW && is_digit(bytes[len]) {
+        size = 10 * size + u64::from(bytes[len] - 48);
+        len += 1;
+    }
+    Digits { len, size }
+}
+
+/// The number at the front, where no white space stands before it.
+#[inline(always)]
+fn number_front(bytes: &[u8]) -> Option<TextNumber>
+    ensures { IfSome result (λ n. LeadsNumber bytes.now n.len n.size n.negative) }
+{
+    if bytes.len() < FEW + 2 {
+        return None;
+    }
+    if bytes[0] == b'-' {
+        let few = few_digits(&bytes[1..]);
+        if few.size == 0 || !ends_at(bytes, few.len + 1) {
+            return None;
+        }
+        return Some(TextNumber {
+            len: few.len + 2,
+            size: few.size,
+            negative: true,
+        });
+    }
+    let few = few_digits(bytes);
+    if few.len == 0 || !ends_at(bytes, few.len) {
+        return None;
+    }
+    Some(TextNumber {
+        len: few.len + 1,
+        size: few.size,
+        negative: false,
+    })
+}
+
+/// The number behind white space.
+#[inline(never)]
+fn number_behind(bytes: &[u8]) -> Option<TextNumber>
+    ensures { IfSome result (λ n. LeadsNumber bytes.now n.len n.size n.negative) }
+{
+    let start = blanks(bytes);
+    let number = number_front(&bytes[start..])?;
+    Some(TextNumber {
+        len: start + number.len,
+        ..number
+    })
+}
+
+/// The number at the front of some bytes of a text, behind any white space, where the byte that ends it stands there
+/// too and it has at most ten digits, as nearly all have.
+#[inline(always)]
+pub fn text_number(bytes: &[u8]) -> Option<TextNumber>
+    ensures { IfSome result (λ n. LeadsNumber bytes.now n.len n.size n.negative) }
+{
+    match number_front(bytes) {
+        Some(number) => Some(number),
+        None => number_behind(bytes),
+    }
 }

@@ -11,6 +11,7 @@ mod value;
 mod write;
 
 pub use binary::binary_item;
+pub use front::{TextNumber, text_number};
 pub use laws::{
     binary_numbers_read_again, machine_spells, spelling_is_shortest, text_numbers_read_again,
     token_stands_first,

@@ -9,7 +9,8 @@ use Rattle.sr_desk.specs.Next.{IsSameReader}
 use Rattle.sr_desk.proofs.CallLemmas.{OnlyReads-trans}
 use Rattle.sr_lemma.specs.Left.{tokens_left}
 use Rattle.sr_lemma.proofs.NumberLemmas.{IsSameReader-trans}
-use Rattle.sr_lsr.specs.Told.{signed, SpellsMore, KeepsSmall}
+use Rattle.sr_model.specs.Words.{signed}
+use Rattle.sr_lsr.specs.Told.{SpellsMore, KeepsSmall}
 use Rattle.sr_lsr.proofs.HintLemmas.{on_ok, signed-is, reading_ahead, reading_stop, reading_default, reading_above, reading_end, reading_more}
 use Rattle.sr_lsr.proofs.hints.read_hints.Goals as goal
 

@@ -1,5 +1,4 @@
 use Rattle.std.proofs.Common.{ℕ, ◌<◌, ◌≤◌, ◌-◌, length}
-use Rattle.sr_base.specs.declared.names.Form.TheVariants.{Binary}
 use Rattle.sr_desk.specs.Outside.{Outside}
 use Rattle.sr_desk.specs.Reader.{skipped}
 use Rattle.sr_lemma.specs.Left.{tokens_left}
@@ -11,7 +10,7 @@ invariant-hints l = record {
   within : l.at ≤ length l.bytes;
   small : KeepsSmall l.fn.hints l.hints l.bound;
   spells : (o : Outside) (lists open_lists : ℕ) → 0 < open_lists
-      → GoesOn l.bound (tokens_left Binary lists open_lists l.fn.reader o) (tokens_left Binary lists open_lists (skipped l.fn.reader l.at) o) l.fn.hints l.hints;
+      → GoesOn l.bound (tokens_left l.form lists open_lists l.fn.reader o) (tokens_left l.form lists open_lists (skipped l.fn.reader l.at) o) l.fn.hints l.hints;
 }
 
 abbrev pub decreases-hints : goal.decreases-hints
