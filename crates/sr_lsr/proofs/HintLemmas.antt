@@ -27,14 +27,11 @@ use Rattle.sr_lemma.specs.Reads.{misplaced, WhereTold, StopsNumbers, GivesFront}
 use Rattle.sr_lemma.proofs.NumberLemmas.{at_number, at_default, by_number_more, by_number_above, front_next, front_stop, open_number, open_zero}
 use Rattle.sr_lemma.proofs.RunLemmas.{run_front}
 use Rattle.sr_lemma.proofs.TextRunLemmas.{text_run_front}
-use Rattle.sr_scan.specs.BinaryLeft.{LeadsValue}
-use Rattle.sr_scan.specs.Front.{LeadsNumber}
 use Rattle.sr_scan.specs.Left.{StandsFirst}
-use Rattle.sr_lsr.specs.declared.hints.Hint.{Hint}
 use Rattle.sr_lsr.specs.declared.hints.LeadingHint.{LeadingHint}
 use Rattle.sr_lsr.specs.declared.hints.Hints.{Hints}
 use Rattle.sr_lsr.specs.Written.{IsSmall, IsSmallGroup}
-use Rattle.sr_lsr.specs.Told.{hint_number, Spells, SpellsMore, IsHintOf, SpellsNumber, LeadsHint, GoesOn}
+use Rattle.sr_lsr.specs.Told.{hint_number, Spells, SpellsMore, SpellsNumber, LeadsHint, GoesOn}
 use Rattle.sr_lsr.specs.Reads.{GivesHints}
 
 -- the hints that were read and what is left spell what stood at the front
@@ -161,16 +158,6 @@ pub run_none : (form : Form) (bound : ℕ) (r : Reader) (o : Outside) (lists ope
     → GoesOn bound (tokens_left form lists open_lists r o) (tokens_left form lists open_lists (skipped r 0) o) hints hints
 run_none form bound r o lists open_lists hints these s all h =
     (all, ap (λ (r : Reader). tokens_left form lists open_lists r o) (skipped-none r) ∙ h, (these, refl, s))
-
--- the hint of a number at the front
-pub leads_text : (bytes : List ℕ) (bound len size : ℕ) (negative : Bool) (hint : Hint) → LeadsNumber bytes len size negative → IsHintOf size negative bound hint
-    → LeadsHint form.Text bytes bound (record { len = len; hint = hint })
-leads_text bytes bound len size negative hint leads is =
-    record { spells = rw (is.size_is, is.sign_is) leads; len_within = leads.within; some = is.some; within = is.within }
-
-pub leads_binary : (bytes : List ℕ) (bound len v : ℕ) (hint : Hint) → LeadsValue bytes len v → IsHintOf (v / 2) (v % 2 == 1) bound hint → LeadsHint form.Binary bytes bound (record { len = len; hint = hint })
-leads_binary bytes bound len v hint leads is =
-    record { spells = (v, leads, value_says v hint.size hint.begins_group leads.small is.size_is is.some is.sign_is); len_within = leads.within; some = is.some; within = is.within }
 
 pub leads_at : (form : Form) (r : Reader) (bytes : List ℕ) (at bound : ℕ) (front : LeadingHint) → bytes ≡ buffered r → LeadsHint form (take (length bytes - at) (drop at bytes)) bound front
     → LeadsHint form (drop at (buffered r)) bound front

@@ -204,9 +204,10 @@ fn number_front(bytes: &[u8]) -> Option<TextNumber>
     })
 }
 
-/// The number behind white space.
-#[inline(never)]
-fn number_behind(bytes: &[u8]) -> Option<TextNumber>
+/// The number at the front of some bytes of a text, behind any white space, where the byte that ends it stands there
+/// too and it has at most ten digits, as nearly all have.
+#[inline(always)]
+pub fn text_number(bytes: &[u8]) -> Option<TextNumber>
     ensures { IfSome result (λ n. LeadsNumber bytes.now n.len n.size n.negative) }
 {
     let start = blanks(bytes);
@@ -215,16 +216,4 @@ fn number_behind(bytes: &[u8]) -> Option<TextNumber>
         len: start + number.len,
         ..number
     })
-}
-
-/// The number at the front of some bytes of a text, behind any white space, where the byte that ends it stands there
-/// too and it has at most ten digits, as nearly all have.
-#[inline(always)]
-pub fn text_number(bytes: &[u8]) -> Option<TextNumber>
-    ensures { IfSome result (λ n. LeadsNumber bytes.now n.len n.size n.negative) }
-{
-    match number_front(bytes) {
-        Some(number) => Some(number),
-        None => number_behind(bytes),
-    }
 }

@@ -1,5 +1,5 @@
 use Rattle.sr_scan.proofs.FrontLemmas.{leads_behind}
-use Rattle.sr_scan.proofs.front.number_behind.Goals as goal
+use Rattle.sr_scan.proofs.front.text_number.Goals as goal
 
 pub returns : goal.returns
 returns c =
