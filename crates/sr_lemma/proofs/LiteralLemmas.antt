@@ -5,17 +5,20 @@ use Rattle.std.proofs.lemmas.Bool.Decides.{nat_tests}
 use Rattle.std.proofs.lemmas.List.{take_rest}
 use Rattle.sr_base.specs.Literal.{Literal, plus, minus, number, literal_of, literal_code}
 use Rattle.sr_base.specs.declared.names.Form.{Form}
-use Rattle.sr_base.specs.declared.names.Form.TheVariants.{Binary}
+use Rattle.sr_base.specs.declared.names.Form.TheVariants as form
 use Rattle.sr_base.specs.declared.names.LimitKind.TheVariants as limit
+use Rattle.sr_desk.specs.Outside.{Outside}
 use Rattle.sr_desk.specs.Reader.{Reader, buffered, skipped}
 use Rattle.sr_model.specs.declared.tokens.Token.{Token}
 use Rattle.sr_model.specs.declared.tokens.Word.TheVariants as word
 use Rattle.sr_model.specs.Binary.{open_after}
 use Rattle.sr_scan.specs.Binary.{value_word}
+use Rattle.sr_scan.specs.Left.{StandsFirst}
 use Rattle.sr_lemma.specs.Left.{tokens_left}
-use Rattle.sr_lemma.specs.Reads.{LeadsLiteral, TakesLiterals}
+use Rattle.sr_lemma.specs.Reads.{SpellsLiteral, LeadsLiteral, TakesLiterals}
 use Rattle.sr_lemma.proofs.NumberLemmas.{front_next, literal_more, named_more, open_number}
 use Rattle.sr_lemma.proofs.RunLemmas.{run_front}
+use Rattle.sr_lemma.proofs.TextRunLemmas.{text_run_front}
 
 -- the code of a literal is the value that spells it
 literal_word : (l : Literal) → 2 ≤ literal_code l → literal_code l < 2 ^ 63 → value_word (literal_code l) ≡ Ok (word.Number (number l))
@@ -57,43 +60,51 @@ takes_none form bound r lits = record {
   numbers = λ o lists open_lists some all h. (all, h, refl);
 }
 
-pub takes_start : (bound : ℕ) (r : Reader) (lits : List Literal) → TakesLiterals Binary bound r (skipped r 0) lits lits
-takes_start bound r lits =
+pub takes_start : (form : Form) (bound : ℕ) (r : Reader) (lits : List Literal) → TakesLiterals form bound r (skipped r 0) lits lits
+takes_start form bound r lits =
     let none : r.taken + 0 ≡ r.taken = omega arith in
     let same : skipped r 0 ≡ r = rw none refl in
-    subst (λ (x : Reader). TakesLiterals Binary bound r x lits lits) (sym same) (takes_none Binary bound r lits)
+    subst (λ (x : Reader). TakesLiterals form bound r x lits lits) (sym same) (takes_none form bound r lits)
 
 -- a literal leaves the lists open
 stays_open : (lists open_lists : ℕ) (l : Literal) → 2 ≤ literal_code l → 0 < open_lists → open_after lists open_lists (word.Number (number l)) ≡ open_lists
 stays_open lists zero l low some = absurd (omega arith)
 stays_open lists (suc o) l low some = open_number lists o (word.Number (number l)) (number l) refl (literal_some l low)
 
+-- a literal behind those that were taken stands first among the tokens that are left
+literal_first : (form : Form) (r : Reader) (at len : ℕ) (l : Literal) (o : Outside) (lists open_lists : ℕ) → SpellsLiteral form (drop at (buffered r)) len l → 2 ≤ literal_code l → at ≤ length (buffered r) → 0 < open_lists
+    → (place : ℕ) × StandsFirst (tokens_left form lists open_lists (skipped r at) o) (tokens_left form lists open_lists (skipped r (at + len)) o) place (word.Number (number l))
+literal_first form.Text r at len l o lists open_lists spells low le some = (r.taken + at + spells.2.start, rw spells.3 (text_run_front r at len spells.0 spells.1 o lists open_lists open_lists spells.2 le))
+literal_first form.Binary r at len l o lists open_lists spells low le some =
+    let says = literal_word l low spells.small in
+    let stays = stays_open lists open_lists l low some in
+    (r.taken + at, rw stays at (run_front r at len (literal_code l) (word.Number (number l)) o lists open_lists spells says some le))
+
 -- one literal more was taken
-pub takes_more : (bound at len : ℕ) (r : Reader) (before lits lits' : List Literal) (l : Literal) → at ≤ length (buffered r) → LeadsLiteral (drop at (buffered r)) bound len l → lits' ≡ lits ++ l ∷ []
-    → TakesLiterals Binary bound r (skipped r at) before lits → TakesLiterals Binary bound r (skipped r (at + len)) before lits'
-takes_more bound at len r before lits lits' l le f pushed t =
+takes_more : (form : Form) (bound at len : ℕ) (r : Reader) (before lits lits' : List Literal) (l : Literal) → at ≤ length (buffered r) → LeadsLiteral form (drop at (buffered r)) bound len l → lits' ≡ lits ++ l ∷ []
+    → TakesLiterals form bound r (skipped r at) before lits → TakesLiterals form bound r (skipped r (at + len)) before lits'
+takes_more form bound at len r before lits lits' l le f pushed t =
     let x = number l in
-    let token : Token = record { place = r.taken + at; word = word.Number x } in
-    let says = literal_word l f.low f.leads.small in
     record {
       same = record { slot = refl; limit = refl; later = omega arith };
       named = λ h. named_more lits lits' x l (t.named h) (literal_named l f.low) refl pushed;
       numbers = λ o lists open_lists some all h.
           let s = t.numbers o lists open_lists some all h in
-          let first = run_front r at len (literal_code l) (word.Number x) o lists open_lists f.leads says some le in
-          let n = front_next (tokens_left Binary lists open_lists (skipped r at) o) (tokens_left Binary lists (open_after lists open_lists (word.Number x)) (skipped r (at + len)) o) token first s.0 s.1 in (
+          let first = literal_first form r at len l o lists open_lists f.spells f.low le some in
+          let token : Token = record { place = first.0; word = word.Number x } in
+          let n = front_next (tokens_left form lists open_lists (skipped r at) o) (tokens_left form lists open_lists (skipped r (at + len)) o) token first.1 s.0 s.1 in (
             n.0,
-            ap (λ (k : ℕ). tokens_left Binary lists k (skipped r (at + len)) o) (sym (stays_open lists open_lists l f.low some)) ∙ n.1,
+            n.1,
             s.2 ∙ n.2 limit.Vars bound (map number lits) ∙ literal_more bound lits lits' token x l n.0 refl (literal_some l f.low) (literal_within l bound f.high) refl pushed,
           );
     }
 
 -- the same, where the bytes at hand are slices
-pub takes_next : (bound at len : ℕ) (r : Reader) (bytes : List ℕ) (before lits lits' : List Literal) (l : Literal) → bytes ≡ buffered r → at ≤ length bytes
-    → LeadsLiteral (take (length bytes - at) (drop at bytes)) bound len l → lits' ≡ lits ++ l ∷ []
-    → TakesLiterals Binary bound r (skipped r at) before lits → TakesLiterals Binary bound r (skipped r (at + len)) before lits'
-takes_next bound at len r bytes before lits lits' l is le f pushed t =
-    takes_more bound at len r before lits lits' l (rw is at le) (rw is at (rw take_rest at f)) pushed t
+pub takes_next : (form : Form) (bound at len : ℕ) (r : Reader) (bytes : List ℕ) (before lits lits' : List Literal) (l : Literal) → bytes ≡ buffered r → at ≤ length bytes
+    → LeadsLiteral form (take (length bytes - at) (drop at bytes)) bound len l → lits' ≡ lits ++ l ∷ []
+    → TakesLiterals form bound r (skipped r at) before lits → TakesLiterals form bound r (skipped r (at + len)) before lits'
+takes_next form bound at len r bytes before lits lits' l is le f pushed t =
+    takes_more form bound at len r before lits lits' l (rw is at le) (rw is at (rw take_rest at f)) pushed t
 
-pub stays_within : (bound at len : ℕ) (bytes : List ℕ) (l : Literal) → at ≤ length bytes → LeadsLiteral (take (length bytes - at) (drop at bytes)) bound len l → at + len ≤ length bytes
-stays_within bound at len bytes l le f = omega (arith, simp (length-take, length-drop) at f.leads.within)
+pub stays_within : (form : Form) (bound at len : ℕ) (bytes : List ℕ) (l : Literal) → at ≤ length bytes → LeadsLiteral form (take (length bytes - at) (drop at bytes)) bound len l → at + len ≤ length bytes
+stays_within form bound at len bytes l le f = omega (arith, simp (length-take, length-drop) at f.len_within)

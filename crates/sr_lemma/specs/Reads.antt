@@ -1,7 +1,8 @@
 -- How what a reader gives and what is left to it spell what stood at its front.
-use Rattle.std.specs.Prelude.{ℕ, ℤ, pos, suc, nat_abs, ◌≡◌, ◌≢◌, ◌+◌, ◌*◌, ◌<◌, ◌≤◌, List, [], map, Option, Some, None, Result, Ok, Err}
+use Rattle.std.specs.Prelude.{ℕ, ℤ, pos, suc, nat_abs, ◌≡◌, ◌≢◌, ◌+◌, ◌*◌, ◌<◌, ◌≤◌, List, [], length, map, Bool, Option, Some, None, Result, Ok, Err}
 use Rattle.sr_base.specs.Literal.{Literal, number, literal_of, literal_code}
 use Rattle.sr_base.specs.declared.names.Form.{Form}
+use Rattle.sr_base.specs.declared.names.Form.TheVariants as form
 use Rattle.sr_base.specs.declared.names.TextKind.{TextKind}
 use Rattle.sr_base.specs.declared.names.TextKind.TheVariants.{BadWord, Unended}
 use Rattle.sr_base.specs.declared.names.LimitKind.TheVariants as limit
@@ -11,11 +12,13 @@ use Rattle.sr_model.specs.declared.tokens.Token.{Token}
 use Rattle.sr_model.specs.declared.tokens.Word.{Word}
 use Rattle.sr_model.specs.declared.tokens.Word.TheVariants as word
 use Rattle.sr_model.specs.Texts.{Texts, stopped, over, next}
+use Rattle.sr_model.specs.Words.{signed}
 use Rattle.sr_model.specs.Binary.{open_after}
 use Rattle.sr_model.specs.Lsr.{NumbersRead, numbers, bad, above, numbers_after}
 use Rattle.sr_desk.specs.Next.{IsSameReader}
 use Rattle.sr_scan.specs.Left.{StandsFirst}
 use Rattle.sr_scan.specs.BinaryLeft.{LeadsValue}
+use Rattle.sr_scan.specs.Front.{LeadsNumber}
 use Rattle.sr_scan.specs.declared.token.ScanStop.{ScanStop}
 use Rattle.sr_scan.specs.declared.token.ScanStop.TheVariants as scan
 use Rattle.sr_wit.specs.declared.fault.InFault.{InFault}
@@ -53,9 +56,15 @@ GivesFront form lists o old new before after (Err (Limit _)) = ⊥
 GivesFront form lists o old new before after (Err Source) = Unit {0}
 GivesFront form lists o old new before after (Err NoMemory) = ⊥
 
--- the first bytes spell a literal, whose variable is within the bound: its value is the literal's code
-pub record LeadsLiteral (bytes : List ℕ) (bound len : ℕ) (l : Literal) : Type 0 where
-  pub leads : LeadsValue bytes len (literal_code l)
+-- the first bytes spell a literal, with what parts it from others: in binary their value is the literal's code
+abbrev pub SpellsLiteral : Form → List ℕ → ℕ → Literal → Type 0
+SpellsLiteral form.Text bytes len l = (size : ℕ) × (negative : Bool) × LeadsNumber bytes len size negative × (number l ≡ signed negative size)
+SpellsLiteral form.Binary bytes len l = LeadsValue bytes len (literal_code l)
+
+-- the first bytes spell a literal, whose variable is within the bound
+pub record LeadsLiteral (form : Form) (bytes : List ℕ) (bound len : ℕ) (l : Literal) : Type 0 where
+  pub spells : SpellsLiteral form bytes len l
+  pub len_within : len ≤ length bytes
   pub low : 2 ≤ literal_code l
   pub high : literal_code l ≤ 2 * bound + 1
 

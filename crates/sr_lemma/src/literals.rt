@@ -1,10 +1,9 @@
 // The literals of a lemma, a step or a deletion, with those of a witness.
 //
-// In a binary file those that stand whole in the reader's buffer are taken in one go: the value that spells a
-// literal is its code.
-ghost use Rattle.std.specs.Prelude.{◌≡◌, ◌≢◌, ℕ, ◌<◌, ◌≤◌, pos, unsigned_abs, [], map, true, IsTrue, IfNone, IfSome, OnSome, IfOk};
-ghost use Rattle.sr_base.specs.Literal.{number, literal_of};
-ghost use Rattle.sr_base.specs.declared.names.Form.TheVariants.{Binary};
+// Those that stand whole in the reader's buffer are taken in one go. In a binary file the value that spells a literal
+// is its code.
+ghost use Rattle.std.specs.Prelude.{◌≡◌, ◌≢◌, ℕ, ◌+◌, ◌*◌, ◌<◌, ◌≤◌, pos, unsigned_abs, [], map, true, IsTrue, IfNone, IfSome, OnSome, IfOk};
+ghost use Rattle.sr_base.specs.Literal.{number, literal_of, literal_code};
 ghost use Rattle.sr_desk.specs.Outside.{OnlyReads};
 ghost use Rattle.sr_desk.specs.Next.{IsSameReader};
 ghost use Rattle.sr_lemma.specs.Reads.{GivesLiterals, GivesMore, HasInCause, LeadsLiteral, SaysLiteral, TakesLiterals};
@@ -14,7 +13,7 @@ use crate::front::{misplaced, next_token};
 use sr_base::{Form, Items, LimitKind, Lit, LitList, NoMemory};
 use sr_desk::{ByteReader, Desk};
 use sr_model::{Token, Word};
-use sr_scan::short_value;
+use sr_scan::{short_value, text_number};
 use sr_wit::InFault;
 use std::alloc::Global;
 
@@ -43,39 +42,68 @@ fn literal_within(x: i64, bound: u32) -> Option<Lit>
     }
 }
 
-/// A literal at the front of some bytes of a binary file: how many bytes it has, and which it is.
+/// A literal at the front of some bytes: how many of them spell it, and which it is.
 #[derive(Clone, Copy)]
 struct LeadingLiteral {
     len: usize,
     lit: Lit,
 }
 
-/// The literal at the front, where its variable is at most the bound, and its value a short one.
+/// The literal of a code, where it has one whose variable is at most the bound.
 #[inline(always)]
-fn literal_front(bytes: &[u8], bound: u32) -> Option<LeadingLiteral>
+fn coded_literal(code: u64, bound: u32) -> Option<Lit>
     requires { bound ≤ 16777215 }
-    ensures { IfSome result (λ f. LeadsLiteral bytes.now bound f.len f.lit) }
+    ensures code { IfSome result (λ l. literal_code l ≡ code) }
+    ensures low { IfSome result (λ l. 2 ≤ literal_code l) }
+    ensures high { IfSome result (λ l. literal_code l ≤ 2 * bound + 1) }
 {
-    let value = short_value(bytes)?;
-    if value.value < 2 || value.value > 2 * u64::from(bound) + 1 {
+    if code < 2 || code > 2 * u64::from(bound) + 1 {
         return None;
     }
-    Some(LeadingLiteral {
-        len: value.len,
-        lit: Lit::from_code(value.value as u32),
-    })
+    Some(Lit::from_code(code as u32))
 }
 
-/// Takes the literals of a binary file that are at hand, up to the first that is cut off, above the bound or
-/// spelled in too many bytes, or the `0`.
-fn take_literals(bound: u32, reader: &mut ByteReader, lits: &mut LitList) -> Result<(), NoMemory>
+/// The literal at the front, where its variable is at most the bound, and its number a short one.
+#[inline(always)]
+fn literal_front(form: Form, bytes: &[u8], bound: u32) -> Option<LeadingLiteral>
     requires { bound ≤ 16777215 }
-    ensures ok { IfOk result (λ _. TakesLiterals Binary bound reader.old reader.new lits.old lits.new) }
+    ensures { IfSome result (λ f. LeadsLiteral form bytes.now bound f.len f.lit) }
+{
+    match form {
+        Form::Text => {
+            let front = text_number(bytes)?;
+            let code = 2 * front.size + u64::from(front.negative);
+            Some(LeadingLiteral {
+                len: front.len,
+                lit: coded_literal(code, bound)?,
+            })
+        }
+        Form::Binary => {
+            let front = short_value(bytes)?;
+            Some(LeadingLiteral {
+                len: front.len,
+                lit: coded_literal(front.value, bound)?,
+            })
+        }
+    }
+}
+
+/// Takes the literals that are at hand, up to the `0` or whatever else is read as a token: a literal that is cut off,
+/// above the bound or long, or what is no literal.
+#[inline(always)]
+fn take_literals(
+    form: Form,
+    bound: u32,
+    reader: &mut ByteReader,
+    lits: &mut LitList,
+) -> Result<(), NoMemory>
+    requires { bound ≤ 16777215 }
+    ensures ok { IfOk result (λ _. TakesLiterals form bound reader.old reader.new lits.old lits.new) }
     ensures same { IsSameReader reader.old reader.new }
 {
     let bytes = reader.buffered();
     let mut at = 0;
-    while let Some(front) = literal_front(&bytes[at..], bound) {
+    while let Some(front) = literal_front(form, &bytes[at..], bound) {
         lits.push(front.lit)?;
         at += front.len;
     }
@@ -83,7 +111,7 @@ fn take_literals(bound: u32, reader: &mut ByteReader, lits: &mut LitList) -> Res
     Ok(())
 }
 
-/// Takes literals that are at hand, which in text are none.
+/// Takes the literals that are at hand, by a loop for each form.
 #[inline(always)]
 fn take_at_hand(
     form: Form,
@@ -96,8 +124,8 @@ fn take_at_hand(
     ensures same { IsSameReader reader.old reader.new }
 {
     match form {
-        Form::Text => Ok(()),
-        Form::Binary => take_literals(bound, reader, lits),
+        Form::Text => take_literals(Form::Text, bound, reader, lits),
+        Form::Binary => take_literals(Form::Binary, bound, reader, lits),
     }
 }
 

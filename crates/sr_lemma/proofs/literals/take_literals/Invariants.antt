@@ -1,5 +1,4 @@
 use Rattle.std.proofs.Common.{◌≤◌, ◌-◌, length}
-use Rattle.sr_base.specs.declared.names.Form.TheVariants.{Binary}
 use Rattle.sr_desk.specs.Reader.{skipped}
 use Rattle.sr_lemma.specs.Reads.{TakesLiterals}
 use Rattle.sr_lemma.proofs.literals.take_literals.Given as goal
@@ -8,7 +7,7 @@ use Rattle.sr_lemma.proofs.literals.take_literals.Given as goal
 abbrev pub invariant-loop-front : goal.invariant-loop-front
 invariant-loop-front l = record {
   within : l.at ≤ length l.bytes;
-  takes : TakesLiterals Binary l.bound l.fn.reader (skipped l.fn.reader l.at) l.fn.lits l.lits;
+  takes : TakesLiterals l.form l.bound l.fn.reader (skipped l.fn.reader l.at) l.fn.lits l.lits;
 }
 
 abbrev pub decreases-loop-front : goal.decreases-loop-front
