@@ -129,7 +129,27 @@ fn take_hints(
     Ok(())
 }
 
-/// Takes the hints at hand, by a loop for each form.
+/// The loop for text.
+#[inline(never)]
+fn take_text(bound: u32, reader: &mut ByteReader, hints: &mut Hints) -> Result<(), NoMemory>
+    ensures spells { OnOk result ((o : Outside) (lists open_lists : ℕ) → 0 < open_lists → GoesOn bound (tokens_left Form.Text lists open_lists reader.old o) (tokens_left Form.Text lists open_lists reader.new o) hints.old hints.new) }
+    ensures small { OnOk result (KeepsSmall hints.old hints.new bound) }
+    ensures same { IsSameReader reader.old reader.new }
+{
+    take_hints(Form::Text, bound, reader, hints)
+}
+
+/// The loop for a binary file.
+#[inline(never)]
+fn take_binary(bound: u32, reader: &mut ByteReader, hints: &mut Hints) -> Result<(), NoMemory>
+    ensures spells { OnOk result ((o : Outside) (lists open_lists : ℕ) → 0 < open_lists → GoesOn bound (tokens_left Form.Binary lists open_lists reader.old o) (tokens_left Form.Binary lists open_lists reader.new o) hints.old hints.new) }
+    ensures small { OnOk result (KeepsSmall hints.old hints.new bound) }
+    ensures same { IsSameReader reader.old reader.new }
+{
+    take_hints(Form::Binary, bound, reader, hints)
+}
+
+/// Takes the hints at hand.
 #[inline(always)]
 fn take_ahead(
     form: Form,
@@ -142,8 +162,8 @@ fn take_ahead(
     ensures same { IsSameReader reader.old reader.new }
 {
     match form {
-        Form::Text => take_hints(Form::Text, bound, reader, hints),
-        Form::Binary => take_hints(Form::Binary, bound, reader, hints),
+        Form::Text => take_text(bound, reader, hints),
+        Form::Binary => take_binary(bound, reader, hints),
     }
 }
 
