@@ -1,6 +1,7 @@
 -- Lemmas on following hints.
-use Rattle.std.proofs.Common.{◌≡◌, ◌<◌, ◌≤◌, ◌+◌, ◌==◌, ℕ, suc, zero, Bool, true, false, not, List, [], ◌∷◌, ◌++◌, refl, sym, ◌∙◌, ap, subst, arith, length, add-one, get_or, drop-cons, take, drop, Option, Some, None, option_to_list}
-use Rattle.std.specs.Prelude.{is_some}
+use Rattle.std.proofs.Common.{◌≡◌, ◌<◌, ◌≤◌, ◌+◌, ◌==◌, ℕ, suc, zero, Bool, true, false, not, List, [], ◌∷◌, ◌++◌, refl, sym, ◌∙◌, ap, subst, arith, length, add-one, get_or, drop-cons, take, drop, Option, Some, None, option_to_list, Bor}
+use Rattle.std.specs.Prelude.{is_some, IfSome}
+use Rattle.std.specs.Option.{option_copied}
 use Rattle.std.proofs.lemmas.List.{take-append-drop, take_all, take-append-le, length-append}
 use Rattle.std.proofs.lemmas.List.Elements.{filter-append}
 use Rattle.sr_base.specs.Literal.{Literal, complement, has}
@@ -8,7 +9,7 @@ use Rattle.sr_model.specs.Substitution.{has_pair}
 use Rattle.sr_model.specs.Chain.{Numbered, clauses, clause_of, open_literals, closes, adds, misleads, hint_of_open, hint_of_clause, hint, unclosed, closes_before, chain}
 use Rattle.sr_base.specs.declared.names.Cause.TheVariants.{NotUnit}
 use Rattle.sr_check.specs.declared.chains.Open.TheVariants.{Nothing, One, More}
-use Rattle.sr_check.specs.Ends.{open_end, KeepsFront}
+use Rattle.sr_check.specs.Ends.{open_end, first_clause, KeepsFront}
 use Rattle.sr_check.specs.Trail.{Marking, Covers, CoversAll, CoversClauses}
 use Rattle.sr_check.proofs.Marking.{by_test, pair_push}
 
@@ -31,6 +32,15 @@ covered_clause room [] n c h e = absurd cc
 covered_clause room (p ∷ ps) n c h e = by_test (p.0 == n)
     (λ t. let s : Some p.1 ≡ Some c = rw t at e in let is : p.1 ≡ c = cc in subst (CoversAll room) is h.0)
     (λ f. covered_clause room ps n c h.1 (rw f at e))
+
+-- so is one that was looked up ahead
+pub covered_ahead : (room : ℕ) (live : Numbered) (n : ℕ) (ahead : Option (Bor (List Literal))) → CoversClauses room (clauses live) → option_copied ahead ≡ clause_of live n → IfSome ahead (λ c. CoversAll room c.now)
+covered_ahead room live n None h e = tt
+covered_ahead room live n (Some c) h e = covered_clause room live n c.now h (sym e)
+
+-- the first of the hints that are left
+pub first_at : (live : Numbered) (hints : List ℕ) (i : ℕ) → i < length hints → first_clause live (drop i hints) ≡ clause_of live (get_or hints i 0)
+first_at live hints i within = ap (first_clause live) (drop-cons hints i 0 within)
 
 -- the front is kept
 pub front_same : (m : Marking) → KeepsFront m m

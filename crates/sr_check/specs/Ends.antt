@@ -1,7 +1,7 @@
 -- What the answers of the code stand for.
-use Rattle.std.specs.Prelude.{◌≡◌, ◌≤◌, List, [], ◌∷◌, take, length}
+use Rattle.std.specs.Prelude.{◌≡◌, ◌≤◌, ℕ, Option, None, List, [], ◌∷◌, take, length}
 use Rattle.sr_base.specs.Literal.{Literal}
-use Rattle.sr_model.specs.Chain.{HintEnd, closes, adds, misleads, ChainEnd, closed, unclosed, faulty}
+use Rattle.sr_model.specs.Chain.{Numbered, clause_of, HintEnd, closes, adds, misleads, ChainEnd, closed, unclosed, faulty}
 use Rattle.sr_model.specs.Meeting.{Meeting, met, unmet}
 use Rattle.sr_check.specs.Trail.{Marking}
 use Rattle.sr_check.specs.declared.meeting.Meet.{Meet}
@@ -18,6 +18,11 @@ abbrev pub open_end : List Literal → Open
 open_end [] = Nothing
 open_end (l ∷ []) = One l
 open_end (l ∷ k ∷ ls) = More
+
+-- the clause that the first hint names
+abbrev pub first_clause : Numbered → List ℕ → Option (List Literal)
+first_clause live [] = None
+first_clause live (h ∷ hs) = clause_of live h
 
 abbrev pub hint_end : Hint → HintEnd
 hint_end Closes = closes

@@ -1,11 +1,12 @@
 // Following hints (after LRAT): a hint names a clause all of whose literals but one are false, and the one that is left
 // follows. One pass over the clause finds it, and ends early at a second one.
-ghost use Rattle.std.specs.Prelude.{◌≡◌, ◌++◌, false, List, IfOk, OnOk};
+ghost use Rattle.std.specs.Prelude.{◌≡◌, ◌++◌, false, List, IfOk, IfSome, OnOk};
+ghost use Rattle.std.specs.Option.{option_copied};
 ghost use Rattle.sr_base.specs.Literal.{Literal, compl};
 ghost use Rattle.sr_model.specs.Substitution.{has_pair};
-ghost use Rattle.sr_model.specs.Chain.{clauses, open_literals, hint, closes_before, chain};
+ghost use Rattle.sr_model.specs.Chain.{clauses, open_literals, hint_of_clause, closes_before, chain};
 ghost use Rattle.sr_check.specs.Trail.{CoversAll, CoversClauses};
-ghost use Rattle.sr_check.specs.Ends.{open_end, hint_end, chain_end, KeepsFront};
+ghost use Rattle.sr_check.specs.Ends.{open_end, hint_end, chain_end, first_clause, KeepsFront};
 
 use crate::live::LiveClauses;
 use crate::marks::Marks;
@@ -62,6 +63,8 @@ pub fn assume(marks: &mut Marks, lits: &[Lit]) -> Result<(), NoMemory>
 }
 
 /// Follows hints in order. Strict checking refuses a hint that stands after the conflict.
+///
+/// The next hint's clause is looked up before a clause is read, so that both wait for memory at once.
 fn follow(
     strict: bool,
     live: &LiveClauses,
@@ -76,8 +79,11 @@ fn follow(
     if marks.has_pair() {
         return Ok(closed_before(strict, hints));
     }
+    let mut ahead = first_clause(live, hints);
     for (i, number) in hints.iter().enumerate() {
-        match follow_one(live, marks, *number) {
+        let clause = ahead;
+        ahead = first_clause(live, &hints[i + 1..]);
+        match follow_one(clause, marks, *number) {
             Hint::Closes => return Ok(closed_before(strict, &hints[i + 1..])),
             Hint::Adds(l) => marks.add(l)?,
             Hint::Misleads(cause) => return Ok(End::Faulty(cause)),
@@ -96,13 +102,24 @@ fn closed_before(strict: bool, left: &[u32]) -> End
     }
 }
 
-/// What a hint does.
-#[inline]
-fn follow_one(live: &LiveClauses, marks: &Marks, number: u32) -> Hint
-    requires { CoversClauses marks.now.room (clauses live.now) }
-    ensures { hint_end result ≡ hint live.now marks.now.lits number }
+/// The clause that the first hint names.
+#[inline(always)]
+fn first_clause<'a>(live: &LiveClauses<'a>, hints: &[u32]) -> Option<&'a [Lit]>
+    ensures { option_copied result ≡ first_clause live.now hints.now }
 {
-    match live.get(number) {
+    match hints {
+        [number, ..] => live.get(*number),
+        [] => None,
+    }
+}
+
+/// What a hint does that names this clause.
+#[inline(always)]
+fn follow_one(clause: Option<&[Lit]>, marks: &Marks, number: u32) -> Hint
+    requires { IfSome clause (λ c. CoversAll marks.now.room c.now) }
+    ensures { hint_end result ≡ hint_of_clause marks.now.lits number (option_copied clause.entry) }
+{
+    match clause {
         None => Hint::Misleads(Cause::DeadHint(number)),
         Some(lits) => match open_of(marks, lits) {
             Open::Nothing => Hint::Closes,
