@@ -10,22 +10,11 @@ ghost use Rattle.sr_lemma.specs.Reads.{GivesLiterals, GivesMore, HasInCause, Lea
 ghost use Rattle.sr_lemma.specs.Told.{literals_told};
 
 use crate::front::{misplaced, next_token};
-use sr_base::{Form, Items, LimitKind, Lit, LitList, NoMemory};
+use sr_base::{Form, LimitKind, Lit, LitList, NoMemory};
 use sr_desk::{ByteReader, Desk};
 use sr_model::{Token, Word};
 use sr_scan::{short_value, text_number};
 use sr_wit::InFault;
-use std::alloc::Global;
-
-/// Few lemmas have more literals. The list is gone once the lemma is made of it.
-const ROOM: usize = 64;
-
-/// Literals as they were read, and the place of the `0` that ends them.
-#[derive(Drop)]
-pub struct Literals {
-    pub lits: LitList,
-    pub end: u64,
-}
 
 /// The literal of a number, where its variable is at most the bound.
 fn literal_within(x: i64, bound: u32) -> Option<Lit>
@@ -150,37 +139,34 @@ fn said_literal(token: &Token, bound: u32) -> Result<Option<Lit>, InFault>
     }
 }
 
-/// The literals up to `0`, behind those that were read already.
+/// The literals up to `0`, behind those that are in the list. The answer is the place of the `0`.
 ///
 /// # Errors
 ///
 /// `Text` at the first token that is no number, and `Limit` at the first variable above the bound; else as
-/// [`next_token`].
+/// [`next_token`]. Some literals may then be in the list.
 pub fn read_more_literals<D: Desk>(
     form: Form,
     bound: u32,
-    mut lits: LitList,
+    lits: &mut LitList,
     reader: &mut ByteReader,
     desk: &mut D,
-) -> Result<Literals, InFault>
+) -> Result<u64, InFault>
     requires reads { IsTrue ((D.outside desk.old).slot reader.old.slot).reads }
     requires bound { bound ≤ 16777215 }
-    ensures literals { (lists open_lists : ℕ) → GivesMore form lists open_lists bound lits reader.old reader.new (D.outside desk.old) (D.outside desk.new) (literals_told result) }
-    ensures named { IfOk result (λ r. map literal_of (map number lits) ≡ lits → map literal_of (map number r.lits) ≡ r.lits) }
+    ensures literals { (lists open_lists : ℕ) → GivesMore form lists open_lists bound lits.old reader.old reader.new (D.outside desk.old) (D.outside desk.new) (literals_told lits.new result) }
+    ensures named { IfOk result (λ _. map literal_of (map number lits.old) ≡ lits.old → map literal_of (map number lits.new) ≡ lits.new) }
     ensures same { IsSameReader reader.old reader.new }
     ensures only { OnlyReads reader.old.slot (D.outside desk.old) (D.outside desk.new) }
     ensures cause { HasInCause reader.old.slot (D.outside desk.old) (D.outside desk.new) result }
 {
     'tokens: loop {
-        if take_at_hand(form, bound, reader, &mut lits).is_err() {
+        if take_at_hand(form, bound, reader, lits).is_err() {
             return Err(InFault::NoMemory);
         }
         let token = next_token(form, false, reader, desk)?;
         let Some(l) = said_literal(&token, bound)? else {
-            return Ok(Literals {
-                lits,
-                end: token.place,
-            });
+            return Ok(token.place);
         };
         if lits.push(l).is_err() {
             return Err(InFault::NoMemory);
@@ -188,61 +174,54 @@ pub fn read_more_literals<D: Desk>(
     }
 }
 
-/// The literals up to `0`.
+/// The literals up to `0`, in place of those that are in the list. The answer is the place of the `0`.
 ///
 /// # Errors
 ///
 /// As [`read_more_literals`].
 pub fn read_all_literals<D: Desk>(
-    alloc: Global,
     form: Form,
     bound: u32,
+    lits: &mut LitList,
     reader: &mut ByteReader,
     desk: &mut D,
-) -> Result<Literals, InFault>
+) -> Result<u64, InFault>
     requires reads { IsTrue ((D.outside desk.old).slot reader.old.slot).reads }
     requires bound { bound ≤ 16777215 }
-    ensures literals { (lists open_lists : ℕ) → GivesMore form lists open_lists bound [] reader.old reader.new (D.outside desk.old) (D.outside desk.new) (literals_told result) }
-    ensures named { IfOk result (λ r. map literal_of (map number r.lits) ≡ r.lits) }
+    ensures literals { (lists open_lists : ℕ) → GivesMore form lists open_lists bound [] reader.old reader.new (D.outside desk.old) (D.outside desk.new) (literals_told lits.new result) }
+    ensures named { IfOk result (λ _. map literal_of (map number lits.new) ≡ lits.new) }
     ensures same { IsSameReader reader.old reader.new }
     ensures only { OnlyReads reader.old.slot (D.outside desk.old) (D.outside desk.new) }
     ensures cause { HasInCause reader.old.slot (D.outside desk.old) (D.outside desk.new) result }
 {
-    let Ok(lits) = Items::with_capacity(alloc, ROOM) else {
-        return Err(InFault::NoMemory);
-    };
+    lits.cut(0);
     read_more_literals(form, bound, lits, reader, desk)
 }
 
-/// The literals up to `0`, of which the first token was read.
+/// The same, where the first token was read.
 ///
 /// # Errors
 ///
 /// As [`read_more_literals`].
 pub fn read_literals<D: Desk>(
-    alloc: Global,
     form: Form,
     bound: u32,
     first: Token,
+    lits: &mut LitList,
     reader: &mut ByteReader,
     desk: &mut D,
-) -> Result<Literals, InFault>
+) -> Result<u64, InFault>
     requires reads { IsTrue ((D.outside desk.old).slot reader.old.slot).reads }
     requires bound { bound ≤ 16777215 }
-    ensures literals { (lists open_lists : ℕ) → GivesLiterals form lists open_lists bound first reader.old reader.new (D.outside desk.old) (D.outside desk.new) (literals_told result) }
-    ensures named { IfOk result (λ r. map literal_of (map number r.lits) ≡ r.lits) }
+    ensures literals { (lists open_lists : ℕ) → GivesLiterals form lists open_lists bound first reader.old reader.new (D.outside desk.old) (D.outside desk.new) (literals_told lits.new result) }
+    ensures named { IfOk result (λ _. map literal_of (map number lits.new) ≡ lits.new) }
     ensures same { IsSameReader reader.old reader.new }
     ensures only { OnlyReads reader.old.slot (D.outside desk.old) (D.outside desk.new) }
     ensures cause { HasInCause reader.old.slot (D.outside desk.old) (D.outside desk.new) result }
 {
+    lits.cut(0);
     let Some(l) = said_literal(&first, bound)? else {
-        return Ok(Literals {
-            lits: Items::new(alloc),
-            end: first.place,
-        });
-    };
-    let Ok(mut lits) = Items::with_capacity(alloc, ROOM) else {
-        return Err(InFault::NoMemory);
+        return Ok(first.place);
     };
     if lits.push(l).is_err() {
         return Err(InFault::NoMemory);

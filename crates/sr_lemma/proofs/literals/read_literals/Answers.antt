@@ -14,11 +14,11 @@ returns-in_err-l-clause-literals g c =
 pub returns-in_default-clause-literals : goal.returns-in_default-clause-literals
 returns-in_default-clause-literals g c =
     let says : SaysLiteral c.args.bound c.args.first (Ok None) = rw c.in_default.is at c.in_ok-l.ensures in
-    first_end c.args.form c.args.bound c.args.first c.args.reader.now (g.D.Desk.outside c.args.desk.now) c.new.result says c.new.ensures
+    first_end c.args.form c.args.bound c.args.first c.args.reader.now (g.D.Desk.outside c.args.desk.now) c.cut.new.self says c.cut.ensures
 
 pub returns-clause-literals : goal.returns-clause-literals
 returns-clause-literals g c =
     let says : SaysLiteral c.args.bound c.args.first (Ok (Some c.in-Some.l)) = rw c.in-Some.is at c.in_ok-l.ensures in
     let one : c.push.new.self ≡ c.in-Some.l ∷ [] = grind (arith, common_steps) in
     first_more c.args.form c.args.bound c.args.first c.args.reader.now c.read_more_literals.new.reader (g.D.Desk.outside c.args.desk.now) (g.D.Desk.outside c.read_more_literals.new.desk) c.in-Some.l c.push.new.self
-    (literals_told c.read_more_literals.result) says one c.read_more_literals.ensures.literals
+    (literals_told c.read_more_literals.new.lits c.read_more_literals.result) says one c.read_more_literals.ensures.literals
