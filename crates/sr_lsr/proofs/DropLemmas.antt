@@ -17,7 +17,6 @@ use Rattle.sr_model.specs.Lsr.{ItemRead, item, misspells, passes, by_dropped, dr
 use Rattle.sr_scan.specs.Left.{StandsFirst}
 use Rattle.sr_wit.specs.declared.fault.InFault.{InFault}
 use Rattle.sr_wit.specs.declared.fault.InFault.TheVariants.{Text, Limit, Source, NoMemory}
-use Rattle.sr_wit.specs.declared.item.LsrItem.TheVariants.{Drop}
 use Rattle.sr_lemma.specs.Left.{tokens_left}
 use Rattle.sr_lemma.specs.Reads.{misplaced, WhereTold, GivesFront}
 use Rattle.sr_lemma.proofs.NumberLemmas.{open_number, open_zero}
@@ -119,7 +118,7 @@ dropping_fault form bound id old mid new before between after ids left t x e inv
 
 pub dropping_end : (form : Form) (bound id : ℕ) (old mid new : Reader) (before between after : Outside) (ids : List ℕ) (t : Token) (x : ℤ) (n : ℕ)
     → Dropping form bound id old mid before between ids → GivesFront form 2 1 mid new between after (Ok t) → t.word ≡ word.Number x → x ≡ pos n → n ≡ 0
-    → GivesDrop bound id (tokens_left form 2 1 old before) (tokens_left form 2 0 new after) (Ok (Drop id ids))
+    → GivesDrop bound id (tokens_left form 2 1 old before) (tokens_left form 2 0 new after) (Ok (λ rest. item (dropped id ids) rest))
 dropping_end form bound id old mid new before between after ids t x n inv given is e z all h =
     let f = dropping_number form bound id old mid new before between after ids t x inv given is all h in
     let nought : x ≡ pos 0 = e ∙ ap pos z in (

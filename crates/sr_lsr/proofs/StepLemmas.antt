@@ -1,22 +1,18 @@
 -- Steps, of their literals and hints.
-use Rattle.std.proofs.Common.{◌≡◌, ◌∙◌, ℕ, ℤ, sym, ap, subst, List, [], map, Option, Some, Ok, Err}
+use Rattle.std.proofs.Common.{◌≡◌, ◌∙◌, ℕ, ℤ, sym, ap, subst, List, [], map, Option, Ok, Err}
 use Rattle.std.specs.Prelude.{Result}
 use Rattle.sr_base.specs.Literal.{Literal, number, literal_of}
 use Rattle.sr_base.specs.Limits.{LimitValues}
-use Rattle.sr_base.specs.declared.names.TextKind.{TextKind}
 use Rattle.sr_base.specs.declared.names.LimitKind.TheVariants as limit
 use Rattle.sr_model.specs.Texts.{Texts}
 use Rattle.sr_model.specs.Witnesses.{fault_of_literals, clause_of_literals, witness_of_literals}
-use Rattle.sr_model.specs.Meeting as meeting
-use Rattle.sr_model.specs.Judging.{Item, stepped}
-use Rattle.sr_model.specs.Lsr.{NumbersRead, numbers, item, misspells, judged_step, numbers_after, groups_of, step_of, with_hints, with_literals}
+use Rattle.sr_model.specs.Meeting.{Step, Group}
+use Rattle.sr_model.specs.Judging.{stepped}
+use Rattle.sr_model.specs.Lsr.{NumbersRead, ItemRead, numbers, judged_step, numbers_after, groups_of, step_of, with_hints, with_literals}
 use Rattle.sr_wit.specs.declared.fault.InFault.{InFault}
 use Rattle.sr_wit.specs.declared.fault.InFault.TheVariants.{Text, Limit, Source, NoMemory}
-use Rattle.sr_wit.specs.declared.item.LsrItem.{LsrItem}
-use Rattle.sr_wit.specs.declared.item.LsrItem.TheVariants.{Step}
 use Rattle.sr_lemma.specs.Reads.{WhereTold, WhereToldBefore, StopsNumbers}
 use Rattle.sr_lsr.specs.Reads.{StopsItem, GivesOf, GivesHints, GivesHintsBehind}
-use Rattle.sr_lsr.specs.Steps.{GivesStep}
 use Rattle.sr_lsr.proofs.BeginLemmas.{stops_same}
 
 -- what stops numbers stops the step that is made of them
@@ -43,12 +39,12 @@ literals_read : (lim : LimitValues) (bound id : ℕ) (read : ℕ → Texts → N
 literals_read lim bound id read all rest lits end b named e =
     ap (λ (n : ℕ). with_literals lim id (read n all)) (sym b) ∙ ap (with_literals lim id) e ∙ ap (λ ls. with_hints id ls end (numbers_after limit.Ids lim.ids [] rest)) named
 
-pub step_behind : (lim : LimitValues) (bound id : ℕ) (read : ℕ → Texts → NumbersRead) (old mid new : Option Texts) (lits : List Literal) (end : ℕ) (result : Result LsrItem InFault) → bound ≡ lim.vars
+pub step_behind : (lim : LimitValues) (bound id : ℕ) (read : ℕ → Texts → NumbersRead) (old mid new : Option Texts) (lits : List Literal) (end : ℕ) (result : Result (Texts → ItemRead) InFault) → bound ≡ lim.vars
     → map literal_of (map number lits) ≡ lits → WhereTold old mid (λ all rest. read bound all ≡ numbers (map number lits) end rest) → GivesHintsBehind lim id lits end mid new result
     → GivesOf (λ all. with_literals lim id (read lim.vars all)) old new result
 step_behind lim bound id read old mid new lits end result b named literals behind = at result behind
   where
-    at : (result : Result LsrItem InFault) → GivesHintsBehind lim id lits end mid new result → GivesOf (λ all. with_literals lim id (read lim.vars all)) old new result
+    at : (result : Result (Texts → ItemRead) InFault) → GivesHintsBehind lim id lits end mid new result → GivesOf (λ all. with_literals lim id (read lim.vars all)) old new result
     at (Ok x) behind = λ all h.
         let s = literals all h in
         let r = behind s.0 s.1 in
@@ -62,32 +58,19 @@ pub hints_stop : (lim : LimitValues) (ids id : ℕ) (lits : List Literal) (end :
 hints_stop lim ids id lits end old new left e i hints all h =
     stops_hints id lits end e (numbers_after limit.Ids lim.ids [] all) (subst (λ (n : ℕ). StopsNumbers e (numbers_after limit.Ids n [] all)) i (hints all h))
 
+-- the step of all its literals and of these hints
+abbrev pub step_with : ℕ → List Literal → List ℕ → List Group → Step
+step_with id lits prefix groups = record { id = id; clause = clause_of_literals lits; witness = witness_of_literals lits; prefix = prefix; groups = groups }
+
 -- the step by its hints
 hints_read : (lim : LimitValues) (ids id : ℕ) (all rest : Texts) (lits : List Literal) (end place : ℕ) (hints : List ℤ) → ids ≡ lim.ids → numbers_after limit.Ids ids [] all ≡ numbers hints place rest
     → with_hints id lits end (numbers_after limit.Ids lim.ids [] all) ≡ judged_step (fault_of_literals lits) end (stepped (step_of id lits hints)) rest
 hints_read lim ids id all rest lits end place hints i e = ap (λ (n : ℕ). with_hints id lits end (numbers_after limit.Ids n [] all)) (sym i) ∙ ap (with_hints id lits end) e
 
-judged_fault : (o : Option TextKind) (kind : TextKind) (place end : ℕ) (it : Item) (rest : Texts) → o ≡ Some kind → place ≡ end → judged_step o end it rest ≡ misspells kind place
-judged_fault o kind place end it rest e p = ap (λ k. judged_step k end it rest) e ∙ ap (misspells kind) (sym p)
-
--- a fault of the whole step
-pub step_fails : (lim : LimitValues) (ids id : ℕ) (lits : List Literal) (end : ℕ) (prefix : List ℕ) (groups : List meeting.Group) (old new left : Option Texts) (e : InFault) → ids ≡ lim.ids
-    → GivesHints ids old new (Ok (prefix, groups)) → GivesStep id lits end prefix groups (Err e) → GivesHintsBehind lim id lits end old left (Err e)
-step_fails lim ids id lits end prefix groups old new left (Text kind place) i hints made all h =
+-- the step of the hints that were read
+pub step_read : (lim : LimitValues) (ids id : ℕ) (lits : List Literal) (end : ℕ) (prefix : List ℕ) (groups : List Group) (old new : Option Texts) → ids ≡ lim.ids
+    → GivesHints ids old new (Ok (prefix, groups)) → GivesHintsBehind lim id lits end old new (Ok (λ rest. judged_step (fault_of_literals lits) end (stepped (step_with id lits prefix groups)) rest))
+step_read lim ids id lits end prefix groups old new i hints all h =
     let k = hints all h in
-    hints_read lim ids id all k.0 lits end k.2.1 k.2.0 i k.2.2 ∙ judged_fault (fault_of_literals lits) kind place end (stepped (step_of id lits k.2.0)) k.0 made.0 made.1
-step_fails lim ids id lits end prefix groups old new left (Limit kind) i hints made all h = absurd made
-step_fails lim ids id lits end prefix groups old new left Source i hints made all h = tt
-step_fails lim ids id lits end prefix groups old new left NoMemory i hints made all h = tt
-
--- a step
-pub step_read : (lim : LimitValues) (ids id : ℕ) (lits : List Literal) (end : ℕ) (prefix : List ℕ) (groups : List meeting.Group) (old new : Option Texts) (step : meeting.Step) → ids ≡ lim.ids
-    → GivesHints ids old new (Ok (prefix, groups)) → GivesStep id lits end prefix groups (Ok step) → GivesHintsBehind lim id lits end old new (Ok (Step step))
-step_read lim ids id lits end prefix groups old new step i hints made all h =
-    let k = hints all h in
-    let of : List ℕ → List meeting.Group → meeting.Step = λ p gs. record { id = id; clause = clause_of_literals lits; witness = witness_of_literals lits; prefix = p; groups = gs } in
-    let same : step_of id lits k.2.0 ≡ step = ap (λ p. of p (groups_of k.2.0)) k.2.3 ∙ ap (of prefix) k.2.4 ∙ sym made.1 in (
-      k.0,
-      k.1,
-      hints_read lim ids id all k.0 lits end k.2.1 k.2.0 i k.2.2 ∙ ap (λ o. judged_step o end (stepped (step_of id lits k.2.0)) k.0) made.0 ∙ ap (λ x. item (stepped x) k.0) same,
-    )
+    let same : step_of id lits k.2.0 ≡ step_with id lits prefix groups = ap (λ p. step_with id lits p (groups_of k.2.0)) k.2.3 ∙ ap (step_with id lits prefix) k.2.4 in
+    (k.0, k.1, hints_read lim ids id all k.0 lits end k.2.1 k.2.0 i k.2.2 ∙ ap (λ x. judged_step (fault_of_literals lits) end (stepped x) k.0) same)

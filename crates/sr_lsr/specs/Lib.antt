@@ -1,4 +1,5 @@
 pub mod Reads
 pub mod Told
+pub mod Frames
 pub mod Steps
 pub mod Written

@@ -17,9 +17,9 @@ use Rattle.sr_lsr.specs.declared.hints.LeadingHint.{LeadingHint}
 use Rattle.sr_lsr.specs.declared.hints.Hints.{Hints}
 use Rattle.sr_lsr.specs.Written.{IsSmall, IsSmallGroup}
 
-abbrev pub hints_told : Result Hints InFault → Result (List ℕ × List (ℕ × List ℕ)) InFault
-hints_told (Ok r) = Ok (r.prefix, r.groups)
-hints_told (Err e) = Err e
+abbrev pub hints_told : Hints → Result (Unit {0}) InFault → Result (List ℕ × List (ℕ × List ℕ)) InFault
+hints_told h (Ok _) = Ok (h.prefix, h.groups)
+hints_told h (Err e) = Err e
 
 abbrev pub IsFresh : Hints → Type 0
 IsFresh h = (h.prefix ≡ []) × (h.groups ≡ [])

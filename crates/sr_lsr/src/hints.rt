@@ -10,16 +10,12 @@ ghost use Rattle.sr_lemma.specs.Reads.{HasInCause};
 ghost use Rattle.sr_lsr.specs.Reads.{GivesHints};
 ghost use Rattle.sr_lsr.specs.Told.{hints_told, hint_number, SpellsMore, KeepsSmall, AreSmall, IsHintOf, LeadsHint, GoesOn, IsFresh};
 
-use sr_base::{Form, IdList, Items, LimitKind, NoMemory};
+use sr_base::{Form, IdList, LimitKind, NoMemory};
 use sr_desk::{ByteReader, Desk};
 use sr_lemma::{misplaced, next_token};
 use sr_model::Word;
 use sr_scan::{short_value, text_number};
 use sr_wit::{GroupList, InFault};
-use std::alloc::Global;
-
-/// Few prefixes have more hints.
-const PREFIX_ROOM: usize = 64;
 
 /// A hint as its number spells it: a negative one begins a group.
 #[derive(Clone, Copy)]
@@ -35,22 +31,20 @@ struct LeadingHint {
     hint: Hint,
 }
 
-/// The hints of a step.
+/// The hints of a step: its prefix, and groups.
 #[derive(Drop)]
-pub(crate) struct Hints {
-    pub(crate) prefix: IdList,
-    pub(crate) groups: GroupList,
+pub struct Hints {
+    pub prefix: IdList,
+    pub groups: GroupList,
 }
 
 impl Hints {
-    /// No hints, with room for those of a prefix.
-    fn new(alloc: Global) -> Result<Hints, NoMemory>
-        ensures { IfOk result IsFresh }
+    /// Removes all hints.
+    fn clear(&mut self)
+        ensures { IsFresh self.new }
     {
-        Ok(Hints {
-            prefix: Items::with_capacity(alloc, PREFIX_ROOM)?,
-            groups: GroupList::new(alloc),
-        })
+        self.prefix.cut(0);
+        self.groups.clear();
     }
 
     /// Adds a hint: it begins a group, or else goes to the last group or, where there is none, to the prefix.
@@ -167,27 +161,25 @@ fn take_ahead(
     }
 }
 
-/// The hints up to `0`.
+/// The hints up to `0`, in place of those that are there.
 pub(crate) fn read_hints<D: Desk>(
-    alloc: Global,
     form: Form,
     bound: u32,
+    hints: &mut Hints,
     reader: &mut ByteReader,
     desk: &mut D,
-) -> Result<Hints, InFault>
+) -> Result<(), InFault>
     requires reads { IsTrue ((D.outside desk.old).slot reader.old.slot).reads }
     requires bound { bound ≤ 2147483647 }
-    ensures hints { GivesHints bound (tokens_left form 2 1 reader.old (D.outside desk.old)) (tokens_left form 2 0 reader.new (D.outside desk.new)) (hints_told result) }
-    ensures small { IfOk result AreSmall }
+    ensures hints { GivesHints bound (tokens_left form 2 1 reader.old (D.outside desk.old)) (tokens_left form 2 0 reader.new (D.outside desk.new)) (hints_told hints.new result) }
+    ensures small { IfOk result (λ _. AreSmall hints.new) }
     ensures same { IsSameReader reader.old reader.new }
     ensures only { OnlyReads reader.old.slot (D.outside desk.old) (D.outside desk.new) }
     ensures cause { HasInCause reader.old.slot (D.outside desk.old) (D.outside desk.new) result }
 {
-    let Ok(mut hints) = Hints::new(alloc) else {
-        return Err(InFault::NoMemory);
-    };
+    hints.clear();
     'tokens: loop {
-        if take_ahead(form, bound, reader, &mut hints).is_err() {
+        if take_ahead(form, bound, reader, hints).is_err() {
             return Err(InFault::NoMemory);
         }
         let token = next_token(form, false, reader, desk)?;
@@ -198,7 +190,7 @@ pub(crate) fn read_hints<D: Desk>(
             });
         };
         if x == 0 {
-            return Ok(hints);
+            return Ok(());
         }
         let size = x.unsigned_abs();
         if size > u64::from(bound) {

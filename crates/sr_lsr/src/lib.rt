@@ -5,11 +5,14 @@
 mod drops;
 mod hints;
 mod items;
+mod lists;
 mod sizes;
 mod steps;
 #[cfg(test)]
 mod tests;
 mod write;
 
-pub use items::next_item;
+pub use hints::Hints;
+pub use items::{next_item, read_item};
+pub use lists::{ItemFrame, ItemLists, make_item};
 pub use write::item_bytes;

@@ -23,13 +23,13 @@ returns-in_err-token-clause-hints g c =
     (g.D.Desk.outside c.next_token.new.desk) c.take_ahead.new.hints (tokens_left c.args.form 2 0 c.next_token.new.reader (g.D.Desk.outside c.next_token.new.desk)) c.in_err-token.field-0.0 ahead
     (c.in_err-token.ensures.token 2 1 (omega arith)))
 
-pub returns-in_default-word-clause-hints : goal.returns-in_default-word-clause-hints
-returns-in_default-word-clause-hints g c =
+pub returns-in_default-clause-hints : goal.returns-in_default-clause-hints
+returns-in_default-clause-hints g c =
     let ahead = reading_ahead c.take_ahead.result c.args.form c.args.bound c.args.reader.now c.tokens.reader c.take_ahead.new.reader (g.D.Desk.outside c.args.desk.now) (g.D.Desk.outside c.tokens.desk)
     c.tokens.hints c.take_ahead.new.hints (sym c.is_err.ensures.value ∙ c.if-is_err.false) c.take_ahead.ensures.spells c.tokens.invariant.hints in
     rw c.misplaced.ensures (reading_default c.args.form c.args.bound c.args.reader.now c.take_ahead.new.reader c.next_token.new.reader (g.D.Desk.outside c.args.desk.now) (g.D.Desk.outside c.tokens.desk)
     (g.D.Desk.outside c.next_token.new.desk) c.take_ahead.new.hints (tokens_left c.args.form 2 0 c.next_token.new.reader (g.D.Desk.outside c.next_token.new.desk)) c.in_ok-token.token ahead
-    (c.in_ok-token.ensures.token 2 1 (omega arith)) c.in_default-word.not-Number)
+    (c.in_ok-token.ensures.token 2 1 (omega arith)) c.in_default.not-Number)
 
 pub returns-then-x-eq0-clause-hints : goal.returns-then-x-eq0-clause-hints
 returns-then-x-eq0-clause-hints g c =

@@ -13,6 +13,7 @@ use Rattle.sr_lemma.specs.Left.{tokens_left}
 use Rattle.sr_lemma.specs.Reads.{misplaced}
 use Rattle.sr_lemma.proofs.NumberLemmas.{open_number}
 use Rattle.sr_lsr.specs.Reads.{GivesSize}
+use Rattle.sr_lsr.specs.Frames.{told}
 use Rattle.sr_lsr.proofs.BeginLemmas.{unbegun, refused, begun}
 use Rattle.sr_lsr.proofs.ItemLemmas.{binary_step_hands_on, step_zero, step_numbered, step_fault, step_other, some_size}
 use Rattle.sr_lsr.proofs.items.read_binary_step.Goals as goal
@@ -52,6 +53,6 @@ returns-clause-item g c =
     let size = subst (λ (x : ℤ). GivesSize x c.ids.result c.in_ok-token.token.place (Ok c.in_ok-id.id)) (to_z-of_z w64 c.in-Number.x fits) c.in_ok-id.ensures in
     begun (binary_step_at c.args.limits.now) (λ all. with_literals c.args.limits.now c.in_ok-id.id (numbers_after limit.Vars c.args.limits.now.vars [] all)) Binary 2 2 c.in_ok-token.token
     c.args.reader.now c.next_token.new.reader (g.D.Desk.outside c.args.desk.now) (g.D.Desk.outside c.next_token.new.desk)
-    (tokens_left Binary 2 0 c.read_binary_literals.new.reader (g.D.Desk.outside c.read_binary_literals.new.desk)) c.read_binary_literals.result (c.in_ok-token.ensures.token 2 2 (omega arith))
+    (tokens_left Binary 2 0 c.read_binary_literals.new.reader (g.D.Desk.outside c.read_binary_literals.new.desk)) (told c.read_binary_literals.new.lists c.read_binary_literals.result) (c.in_ok-token.ensures.token 2 2 (omega arith))
     (open_number 2 1 c.in_ok-token.token.word c.in-Number.x c.in-Number.is (some_size c.in-Number.x c.in_ok-id.id c.ids.result c.in_ok-token.token.place size c.if-id-eq0.false))
     (λ rest. step_numbered c.args.limits.now c.ids.result c.in_ok-token.token c.in-Number.x c.in_ok-id.id rest c.ids.ensures.value c.in-Number.is size c.if-id-eq0.false) c.read_binary_literals.ensures.item

@@ -10,6 +10,7 @@ use Rattle.sr_model.specs.LsrBinary.{item_in}
 use Rattle.sr_lemma.specs.Laws.{front_word}
 use Rattle.sr_lemma.specs.Left.{tokens_left}
 use Rattle.sr_lsr.specs.Reads.{GivesSize}
+use Rattle.sr_lsr.specs.Frames.{framed}
 use Rattle.sr_lsr.proofs.BeginLemmas.{some_by, fault_by}
 use Rattle.sr_lsr.proofs.ItemLemmas.{text_end, text_numbered, text_fault, text_other}
 use Rattle.sr_lsr.proofs.items.text_item.Goals as goal
@@ -29,7 +30,7 @@ returns-in-Ok-clause-item g c =
     let fits : SFits w64 c.in-Number.x = search rules in
     let size = subst (λ (x : ℤ). GivesSize x c.ids.result c.args.token.place (Ok c.in_ok-id-in-Number.id)) (to_z-of_z w64 c.in-Number.x fits) c.in_ok-id-in-Number.ensures in
     some_by (λ all. item_in Text c.args.limits.now (front_word c.args.token.place c.args.token.word all)) (kind_at c.args.limits.now c.in_ok-id-in-Number.id c.args.token.place) Text c.args.token.word
-    (open_after 2 0 c.args.token.word) c.args.reader.now (g.D.Desk.outside c.args.desk.now) (tokens_left Text 2 0 c.read_numbered.new.reader (g.D.Desk.outside c.read_numbered.new.desk)) c.in-Ok.item refl
+    (open_after 2 0 c.args.token.word) c.args.reader.now (g.D.Desk.outside c.args.desk.now) (tokens_left Text 2 0 c.read_numbered.new.reader (g.D.Desk.outside c.read_numbered.new.desk)) (framed c.in-Ok.frame c.read_numbered.new.lists) refl
     (λ all. text_numbered c.args.limits.now c.ids.result c.args.token c.in-Number.x c.in_ok-id-in-Number.id all c.ids.ensures.value c.in-Number.is size) c.in-Ok.ensures.item
 
 pub returns-in-Err-clause-item : goal.returns-in-Err-clause-item

@@ -2,8 +2,9 @@ use Rattle.std.proofs.Common.{refl}
 use Rattle.std.proofs.lemmas.Result.{err_from_is_err_and}
 use Rattle.sr_base.specs.declared.names.Form.TheVariants as form
 use Rattle.sr_lemma.specs.Left.{tokens_left}
+use Rattle.sr_lsr.specs.Frames.{some_told}
 use Rattle.sr_lsr.proofs.NextLemmas.{item_unbegun, item_begun_in, item_takes}
-use Rattle.sr_lsr.proofs.items.next_item.Goals as goal
+use Rattle.sr_lsr.proofs.items.read_item.Goals as goal
 
 pub returns-in_err-token-clause-item : goal.returns-in_err-token-clause-item
 returns-in_err-token-clause-item g c =
@@ -22,9 +23,9 @@ returns-in-Binary-clause-takes g c =
 pub returns-in-Text-clause-item : goal.returns-in-Text-clause-item
 returns-in-Text-clause-item g c =
     item_begun_in c.args.form form.Text c.args.limits.now c.in_ok-token.token c.args.reader.now c.next_token.new.reader c.text_item.new.reader (g.D.Desk.outside c.args.desk.now) (g.D.Desk.outside c.next_token.new.desk)
-    (g.D.Desk.outside c.text_item.new.desk) c.text_item.result c.in-Text.is (c.in_ok-token.ensures.token 2 0 refl) c.text_item.ensures.item
+    (g.D.Desk.outside c.text_item.new.desk) (some_told c.text_item.new.lists c.text_item.result) c.in-Text.is (c.in_ok-token.ensures.token 2 0 refl) c.text_item.ensures.item
 
 pub returns-in-Binary-clause-item : goal.returns-in-Binary-clause-item
 returns-in-Binary-clause-item g c =
     item_begun_in c.args.form form.Binary c.args.limits.now c.in_ok-token.token c.args.reader.now c.next_token.new.reader c.binary_item.new.reader (g.D.Desk.outside c.args.desk.now) (g.D.Desk.outside c.next_token.new.desk)
-    (g.D.Desk.outside c.binary_item.new.desk) c.binary_item.result c.in-Binary.is (c.in_ok-token.ensures.token 2 0 refl) c.binary_item.ensures.item
+    (g.D.Desk.outside c.binary_item.new.desk) (some_told c.binary_item.new.lists c.binary_item.result) c.in-Binary.is (c.in_ok-token.ensures.token 2 0 refl) c.binary_item.ensures.item
