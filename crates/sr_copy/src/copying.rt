@@ -2,11 +2,11 @@
 ghost use Rattle.std.specs.Prelude.{◌≡◌, ◌-◌, ◌<◌, true, IsTrue};
 ghost use Rattle.sr_lsr.specs.Reads.{TakesSome};
 
-use crate::output::Output;
-use sr_base::{Form, Limits};
+use crate::output::{Output, Target};
+use sr_base::{Form, Limits, LitList};
 use sr_desk::{ByteReader, Desk};
-use sr_dsr::{line_bytes, next_line};
-use sr_lsr::{item_bytes, next_item};
+use sr_dsr::{line_bytes, next_line, read_line};
+use sr_lsr::{ItemLists, item_bytes, make_item, read_item};
 use sr_wit::InFault;
 use std::alloc::Global;
 
@@ -39,6 +39,7 @@ fn stop_of(fault: InFault) -> CopyStop {
 fn copy_item<D: Desk>(
     alloc: Global,
     form: Form,
+    lists: &mut ItemLists,
     reader: &mut ByteReader,
     desk: &mut D,
     out: &mut Output,
@@ -47,18 +48,43 @@ fn copy_item<D: Desk>(
     ensures reads { IsTrue ((D.outside desk.new).slot reader.new.slot).reads }
     ensures takes { result ≡ Ok true → TakesSome reader.old reader.new }
 {
-    match next_item(alloc, form, reader, desk, &Limits::shipped()) {
+    let frame = match read_item(form, lists, reader, desk, &Limits::shipped()) {
+        Err(fault) => return Err(stop_of(fault)),
+        Ok(None) => return Ok(false),
+        Ok(Some(frame)) => frame,
+    };
+    if matches!(out.target, Target::Lists) {
+        return Ok(true);
+    }
+    let item = match make_item(alloc, frame, lists) {
+        Err(fault) => return Err(stop_of(fault)),
+        Ok(item) => item,
+    };
+    if let Target::Written(to) = out.target {
+        let Ok(bytes) = item_bytes(alloc, to, &item) else {
+            return Err(CopyStop::NoMemory);
+        };
+        out.add(bytes.as_slice(), desk)?;
+    }
+    lists.reuse(item);
+    Ok(true)
+}
+
+/// Reads the literals of one line, and says whether there was one.
+fn read_literals<D: Desk>(
+    form: Form,
+    lits: &mut LitList,
+    reader: &mut ByteReader,
+    desk: &mut D,
+) -> Result<bool, CopyStop>
+    requires { IsTrue ((D.outside desk.old).slot reader.old.slot).reads }
+    ensures reads { IsTrue ((D.outside desk.new).slot reader.new.slot).reads }
+    ensures takes { result ≡ Ok true → TakesSome reader.old reader.new }
+{
+    match read_line(form, lits, reader, desk, &Limits::shipped()) {
         Err(fault) => Err(stop_of(fault)),
         Ok(None) => Ok(false),
-        Ok(Some(item)) => {
-            if let Some(to) = out.form {
-                let Ok(bytes) = item_bytes(alloc, to, &item) else {
-                    return Err(CopyStop::NoMemory);
-                };
-                out.add(bytes.as_slice(), desk)?;
-            }
-            Ok(true)
-        }
+        Ok(Some(_)) => Ok(true),
     }
 }
 
@@ -78,7 +104,7 @@ fn copy_line<D: Desk>(
         Err(fault) => Err(stop_of(fault)),
         Ok(None) => Ok(false),
         Ok(Some(line)) => {
-            if let Some(to) = out.form {
+            if let Target::Written(to) = out.target {
                 let Ok(bytes) = line_bytes(alloc, to, &line) else {
                     return Err(CopyStop::NoMemory);
                 };
@@ -94,6 +120,7 @@ fn copy_next<D: Desk>(
     alloc: Global,
     kind: Kind,
     form: Form,
+    lists: &mut ItemLists,
     reader: &mut ByteReader,
     desk: &mut D,
     out: &mut Output,
@@ -102,9 +129,10 @@ fn copy_next<D: Desk>(
     ensures reads { IsTrue ((D.outside desk.new).slot reader.new.slot).reads }
     ensures takes { result ≡ Ok true → TakesSome reader.old reader.new }
 {
-    match kind {
-        Kind::Lsr => copy_item(alloc, form, reader, desk, out),
-        Kind::Dsr => copy_line(alloc, form, reader, desk, out),
+    match (kind, out.target) {
+        (Kind::Lsr, _) => copy_item(alloc, form, lists, reader, desk, out),
+        (Kind::Dsr, Target::Lists) => read_literals(form, &mut lists.lits, reader, desk),
+        (Kind::Dsr, _) => copy_line(alloc, form, reader, desk, out),
     }
 }
 
@@ -119,8 +147,11 @@ fn copy_all<D: Desk>(
 ) -> Result<(), CopyStop>
     requires { IsTrue ((D.outside desk.old).slot reader.old.slot).reads }
 {
+    let Ok(mut lists) = ItemLists::new(alloc) else {
+        return Err(CopyStop::NoMemory);
+    };
     'items: loop {
-        if !copy_next(alloc, kind, form, reader, desk, out)? {
+        if !copy_next(alloc, kind, form, &mut lists, reader, desk, out)? {
             return out.send(desk);
         }
     }
@@ -131,7 +162,7 @@ pub fn copy_file<D: Desk>(
     alloc: Global,
     kind: Kind,
     from: Form,
-    to: Option<Form>,
+    target: Target,
     name: &str,
     desk: &mut D,
 ) -> Result<(), CopyStop>
@@ -143,6 +174,6 @@ pub fn copy_file<D: Desk>(
     let Ok(mut reader) = ByteReader::new(alloc, slot, Limits::shipped().bytes()) else {
         return Err(CopyStop::NoMemory);
     };
-    let mut out = Output::new(alloc, to);
+    let mut out = Output::new(alloc, target);
     copy_all(alloc, kind, from, &mut reader, desk, &mut out)
 }

@@ -1,5 +1,6 @@
 //! Reads a proof and writes it again, in text or in binary: `sr_copy KIND FROM TO FILE`, where KIND is `lsr` or `dsr`,
-//! FROM is `text` or `binary`, and TO is one of these two or `nothing`, which only reads. It writes to standard output.
+//! FROM is `text` or `binary`, and TO is one of these two; or `lists`, which reads into lists that are kept, or `items`,
+//! which makes each item, and neither writes. What is written goes to standard output.
 //!
 //! It is there to measure reading and writing alone. The status is 0 where the whole file was read and written, 2 for
 //! other words, 3 where the file spells no such proof, 5 where reading fails, 6 where writing does, and 7 for want of memory.
@@ -9,6 +10,7 @@ mod copying;
 mod output;
 
 use copying::{CopyStop, Kind, copy_file};
+use output::Target;
 use sr_base::Form;
 use sr_desk::HostDesk;
 use std::alloc::Global;
@@ -21,7 +23,7 @@ use std::process::ExitCode;
 struct Request<'a> {
     kind: Kind,
     from: Form,
-    to: Option<Form>,
+    target: Target,
     name: &'a str,
 }
 
@@ -41,6 +43,17 @@ fn form_named(word: &str) -> Option<Form> {
     }
 }
 
+fn target_named(word: &str) -> Option<Target> {
+    match word {
+        "lists" => Some(Target::Lists),
+        "items" => Some(Target::Items),
+        _ => match form_named(word) {
+            Some(form) => Some(Target::Written(form)),
+            None => None,
+        },
+    }
+}
+
 /// What the words ask for; none where they ask for nothing.
 fn request_of(words: &[String]) -> Option<Request<'_>> {
     let [kind, from, to, name] = words else {
@@ -48,11 +61,11 @@ fn request_of(words: &[String]) -> Option<Request<'_>> {
     };
     let kind = kind_named(kind.as_str())?;
     let from = form_named(from.as_str())?;
-    let to = form_named(to.as_str());
+    let target = target_named(to.as_str())?;
     Some(Request {
         kind,
         from,
-        to,
+        target,
         name: name.as_str(),
     })
 }
@@ -76,7 +89,7 @@ fn main(rt: HostRuntime) -> ExitCode {
         alloc,
         request.kind,
         request.from,
-        request.to,
+        request.target,
         request.name,
         &mut desk,
     ) {

@@ -10,17 +10,28 @@ use std::alloc::Global;
 /// The most bytes that are gathered.
 const ROOM: usize = 65_536;
 
-/// The form in which proofs are written, if any, and what wasn't sent yet.
+/// What becomes of a proof.
+#[derive(Clone, Copy)]
+pub enum Target {
+    /// It is read into lists that are kept from item to item.
+    Lists,
+    /// Each item or line is made.
+    Items,
+    /// And written in this form.
+    Written(Form),
+}
+
+/// What becomes of a proof, and what wasn't sent yet.
 #[derive(Drop)]
 pub struct Output {
-    pub form: Option<Form>,
+    pub target: Target,
     pub bytes: ByteList,
 }
 
 impl Output {
-    pub fn new(alloc: Global, form: Option<Form>) -> Output {
+    pub fn new(alloc: Global, target: Target) -> Output {
         Output {
-            form,
+            target,
             bytes: ByteList::new(alloc),
         }
     }
