@@ -1,4 +1,4 @@
-pub mod LineLemmas
+pub mod FrameLemmas
 pub mod BeginLemmas
-pub mod NextLemmas
+pub mod FrontLemmas
 pub mod WriteLemmas
