@@ -143,19 +143,19 @@ impl Checker {
     ///
     /// `Cells` comes only for a step that is met and whose clause would pass the limit. After it, and where memory
     /// lacks, the checker is as it was; its memory may have been compacted.
-    pub fn take(&mut self, item: LsrItem) -> Result<Verdict, TakeStop>
+    pub fn take(&mut self, item: &LsrItem) -> Result<Verdict, TakeStop>
         requires { self.old.state.verdict ≡ Verdict.Going }
-        ensures state { OnOk result (self.new ≡ record self.old { state = after_item self.old.strict self.old.state (item_of item); used = self.new.used }) }
+        ensures state { OnOk result (self.new ≡ record self.old { state = after_item self.old.strict self.old.state (item_of item.now); used = self.new.used }) }
         ensures verdict { IfOk result (λ v. v ≡ self.new.state.verdict) }
-        ensures used { OnOk result (self.new.used ≤ 2 * cells_of (clauses self.old.state.live.clauses) + 1024 + new_cells self.old (item_of item)) }
-        ensures cells { result ≡ Err TakeStop.Cells → passes_cells self.old (item_of item) ≡ true }
-        ensures fits { OnOk result (passes_cells self.old (item_of item) ≡ false) }
+        ensures used { OnOk result (self.new.used ≤ 2 * cells_of (clauses self.old.state.live.clauses) + 1024 + new_cells self.old (item_of item.now)) }
+        ensures cells { result ≡ Err TakeStop.Cells → passes_cells self.old (item_of item.now) ≡ true }
+        ensures fits { OnOk result (passes_cells self.old (item_of item.now) ≡ false) }
         ensures err { OnErr result (self.new ≡ record self.old { used = self.new.used }) }
     {
         self.live.tidy(self.scratch.alloc)?;
         match item {
-            LsrItem::Step(step) => self.take_step(&step),
-            LsrItem::Drop { id, ids } => Ok(self.take_drop(id, ids.as_slice())),
+            LsrItem::Step(step) => self.take_step(step),
+            LsrItem::Drop { id, ids } => Ok(self.take_drop(*id, ids.as_slice())),
         }
     }
 

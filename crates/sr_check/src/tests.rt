@@ -54,7 +54,7 @@ fn a_proof_is_verified(rt: HostRuntime) -> Result<(), Fail> {
     };
     assert_eq!(rt; checker.verdict(), Verdict::Going);
     let item = empty_clause(rt.alloc(), &[1, 2])?;
-    let Ok(verdict) = checker.take(item) else {
+    let Ok(verdict) = checker.take(&item) else {
         return Err(Fail::from("not taken"));
     };
     assert_eq!(rt; verdict, Verdict::Verified);

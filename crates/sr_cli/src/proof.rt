@@ -14,7 +14,7 @@ use sr_base::{Form, LimitKind, Limits, Which};
 use sr_check::{Checker, TakeStop};
 use sr_desk::{ByteReader, Desk};
 use sr_emit::Outcome;
-use sr_lsr::next_item;
+use sr_lsr::{ItemLists, next_item_in};
 use sr_model::Verdict;
 use sr_wit::{GroupList, InFault, LsrItem, Step};
 use std::alloc::Global;
@@ -84,11 +84,11 @@ pub(crate) fn limit(which: Which, kind: LimitKind) -> Outcome
 }
 
 /// Takes an item, and gives the outcome where judging ends with it.
-fn take_item(checker: &mut Checker, tally: &mut Tally, item: LsrItem) -> Option<Outcome>
+fn take_item(checker: &mut Checker, tally: &mut Tally, item: &LsrItem) -> Option<Outcome>
     requires { checker.old.state.verdict ≡ Verdict.Going }
-    ensures { Takes checker.old checker.new tally.old tally.new (item_of item) result }
+    ensures { Takes checker.old checker.new tally.old tally.new (item_of item.now) result }
 {
-    let Some(counted) = tally.with(&item) else {
+    let Some(counted) = tally.with(item) else {
         return Some(Outcome::NoMemory);
     };
     match checker.take(item) {
@@ -128,14 +128,17 @@ pub(crate) fn judge_proof<D: Desk>(
     ensures only { OnlyReads reader.old.slot (D.outside desk.old) (D.outside desk.new) }
     ensures cause { HasFileCause Which.Proof reader.old.slot (D.outside desk.old) (D.outside desk.new) result }
 {
+    let Ok(mut lists) = ItemLists::new(alloc) else {
+        return Outcome::NoMemory;
+    };
     let mut checker = checker;
     'items: loop {
-        match next_item(alloc, form, reader, desk, limits) {
+        match next_item_in(alloc, form, &mut lists, reader, desk, limits) {
             Err(fault) => return outcome_of(Which::Proof, fault),
             Ok(None) => return Outcome::NoEmptyClause,
-            Ok(Some(item)) => match take_item(&mut checker, tally, item) {
+            Ok(Some(item)) => match take_item(&mut checker, tally, &item) {
                 Some(outcome) => return outcome,
-                None => {}
+                None => lists.reuse(item),
             },
         }
     }

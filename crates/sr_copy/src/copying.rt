@@ -5,8 +5,8 @@ ghost use Rattle.sr_lsr.specs.Reads.{TakesSome};
 use crate::output::{Output, Target};
 use sr_base::{Form, Limits, LitList};
 use sr_desk::{ByteReader, Desk};
-use sr_dsr::{line_bytes, next_line, read_line};
-use sr_lsr::{ItemLists, item_bytes, make_item, read_item};
+use sr_dsr::{line_bytes, next_line_in, read_line};
+use sr_lsr::{ItemLists, item_bytes, next_item_in, read_item};
 use sr_wit::InFault;
 use std::alloc::Global;
 
@@ -48,17 +48,17 @@ fn copy_item<D: Desk>(
     ensures reads { IsTrue ((D.outside desk.new).slot reader.new.slot).reads }
     ensures takes { result ≡ Ok true → TakesSome reader.old reader.new }
 {
-    let frame = match read_item(form, lists, reader, desk, &Limits::shipped()) {
+    if matches!(out.target, Target::Lists) {
+        return match read_item(form, lists, reader, desk, &Limits::shipped()) {
+            Err(fault) => Err(stop_of(fault)),
+            Ok(None) => Ok(false),
+            Ok(Some(_)) => Ok(true),
+        };
+    }
+    let item = match next_item_in(alloc, form, lists, reader, desk, &Limits::shipped()) {
         Err(fault) => return Err(stop_of(fault)),
         Ok(None) => return Ok(false),
-        Ok(Some(frame)) => frame,
-    };
-    if matches!(out.target, Target::Lists) {
-        return Ok(true);
-    }
-    let item = match make_item(alloc, frame, lists) {
-        Err(fault) => return Err(stop_of(fault)),
-        Ok(item) => item,
+        Ok(Some(item)) => item,
     };
     if let Target::Written(to) = out.target {
         let Ok(bytes) = item_bytes(alloc, to, &item) else {
@@ -70,28 +70,11 @@ fn copy_item<D: Desk>(
     Ok(true)
 }
 
-/// Reads the literals of one line, and says whether there was one.
-fn read_literals<D: Desk>(
-    form: Form,
-    lits: &mut LitList,
-    reader: &mut ByteReader,
-    desk: &mut D,
-) -> Result<bool, CopyStop>
-    requires { IsTrue ((D.outside desk.old).slot reader.old.slot).reads }
-    ensures reads { IsTrue ((D.outside desk.new).slot reader.new.slot).reads }
-    ensures takes { result ≡ Ok true → TakesSome reader.old reader.new }
-{
-    match read_line(form, lits, reader, desk, &Limits::shipped()) {
-        Err(fault) => Err(stop_of(fault)),
-        Ok(None) => Ok(false),
-        Ok(Some(_)) => Ok(true),
-    }
-}
-
 /// Copies one line, and says whether there was one.
 fn copy_line<D: Desk>(
     alloc: Global,
     form: Form,
+    lits: &mut LitList,
     reader: &mut ByteReader,
     desk: &mut D,
     out: &mut Output,
@@ -100,19 +83,26 @@ fn copy_line<D: Desk>(
     ensures reads { IsTrue ((D.outside desk.new).slot reader.new.slot).reads }
     ensures takes { result ≡ Ok true → TakesSome reader.old reader.new }
 {
-    match next_line(alloc, form, reader, desk, &Limits::shipped()) {
-        Err(fault) => Err(stop_of(fault)),
-        Ok(None) => Ok(false),
-        Ok(Some(line)) => {
-            if let Target::Written(to) = out.target {
-                let Ok(bytes) = line_bytes(alloc, to, &line) else {
-                    return Err(CopyStop::NoMemory);
-                };
-                out.add(bytes.as_slice(), desk)?;
-            }
-            Ok(true)
-        }
+    if matches!(out.target, Target::Lists) {
+        return match read_line(form, lits, reader, desk, &Limits::shipped()) {
+            Err(fault) => Err(stop_of(fault)),
+            Ok(None) => Ok(false),
+            Ok(Some(_)) => Ok(true),
+        };
     }
+    let line = match next_line_in(alloc, form, lits, reader, desk, &Limits::shipped()) {
+        Err(fault) => return Err(stop_of(fault)),
+        Ok(None) => return Ok(false),
+        Ok(Some(line)) => line,
+    };
+    if let Target::Written(to) = out.target {
+        let Ok(bytes) = line_bytes(alloc, to, &line) else {
+            return Err(CopyStop::NoMemory);
+        };
+        out.add(bytes.as_slice(), desk)?;
+    }
+    *lits = line.into_list();
+    Ok(true)
 }
 
 /// Copies one item or line, and says whether there was one.
@@ -129,10 +119,9 @@ fn copy_next<D: Desk>(
     ensures reads { IsTrue ((D.outside desk.new).slot reader.new.slot).reads }
     ensures takes { result ≡ Ok true → TakesSome reader.old reader.new }
 {
-    match (kind, out.target) {
-        (Kind::Lsr, _) => copy_item(alloc, form, lists, reader, desk, out),
-        (Kind::Dsr, Target::Lists) => read_literals(form, &mut lists.lits, reader, desk),
-        (Kind::Dsr, _) => copy_line(alloc, form, reader, desk, out),
+    match kind {
+        Kind::Lsr => copy_item(alloc, form, lists, reader, desk, out),
+        Kind::Dsr => copy_line(alloc, form, &mut lists.lits, reader, desk, out),
     }
 }
 

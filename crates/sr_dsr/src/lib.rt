@@ -5,6 +5,6 @@
 mod lines;
 mod write;
 
-pub use lines::{LineFrame, LineKind, make_line, next_line, read_line};
+pub use lines::{LineFrame, LineKind, make_line, next_line, next_line_in, read_line};
 pub use sr_lemma::{DsrLine, Lemma};
 pub use write::line_bytes;

@@ -18,6 +18,7 @@ use sr_lemma::{DsrLine, Lemma, next_token, read_all_literals, read_literals};
 use sr_model::{Token, Word};
 use sr_wit::InFault;
 use std::alloc::Global;
+use std::mem;
 
 /// Few lines have more literals.
 const ROOM: usize = 64;
@@ -188,6 +189,35 @@ pub fn make_line(alloc: Global, frame: LineFrame, lits: LitList) -> Result<DsrLi
     }
 }
 
+/// The next line as [`next_line`] gives it, read and made in the memory of this list. [`DsrLine::into_list`] gives it back.
+///
+/// # Errors
+///
+/// As [`next_line`].
+pub fn next_line_in<D: Desk>(
+    alloc: Global,
+    form: Form,
+    lits: &mut LitList,
+    reader: &mut ByteReader,
+    desk: &mut D,
+    limits: &Limits,
+) -> Result<Option<DsrLine>, InFault>
+    requires { IsTrue ((D.outside desk.old).slot reader.old.slot).reads }
+    ensures line { GivesLine form limits.now (tokens_left form 1 0 reader.old (D.outside desk.old)) (tokens_left form 1 0 reader.new (D.outside desk.new)) result }
+    ensures takes { IfOk result (λ o. OnSome o (TakesSome reader.old reader.new)) }
+    ensures pivot { IfOk result (λ o. IfSome o (λ l. LineHasPivot (line_of l))) }
+    ensures same { IsSameReader reader.old reader.new }
+    ensures only { OnlyReads reader.old.slot (D.outside desk.old) (D.outside desk.new) }
+    ensures cause { HasInCause reader.old.slot (D.outside desk.old) (D.outside desk.new) result }
+{
+    let Some(frame) = read_line(form, lits, reader, desk, limits)? else {
+        return Ok(None);
+    };
+    let written = mem::replace(lits, Items::new(alloc));
+    let line = make_line(alloc, frame, written)?;
+    Ok(Some(line))
+}
+
 /// The next line of a proof by lemmas; none where only white space and comments are left (text) or nothing
 /// (binary). A lemma's witness has the first literal of its clause as its pivot.
 ///
@@ -215,9 +245,5 @@ pub fn next_line<D: Desk>(
     let Ok(mut lits) = Items::with_capacity(alloc, ROOM) else {
         return Err(InFault::NoMemory);
     };
-    let Some(frame) = read_line(form, &mut lits, reader, desk, limits)? else {
-        return Ok(None);
-    };
-    let line = make_line(alloc, frame, lits)?;
-    Ok(Some(line))
+    next_line_in(alloc, form, &mut lits, reader, desk, limits)
 }

@@ -17,6 +17,11 @@ abbrev pub line_of : DsrLine → Line
 line_of (Add l) = lemma_line (lemma_told l)
 line_of (Del c) = deletion_line c
 
+-- the clause that a line adds or deletes
+abbrev pub clause_told : Line → List Literal
+clause_told (lemma_line l) = l.clause
+clause_told (deletion_line c) = c
+
 -- the lemma of its literals, of which a `0` at this place is the end
 abbrev pub GivesLemma : List Literal → ℕ → Result Lemma InFault → Type 0
 GivesLemma lits end (Ok l) = (fault_of_literals lits ≡ None) × (lemma_told l ≡ lemma_of lits)

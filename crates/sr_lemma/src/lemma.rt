@@ -1,7 +1,7 @@
 // Lemmas, and lines of a proof by lemmas.
-ghost use Rattle.std.specs.Prelude.{IfOk};
+ghost use Rattle.std.specs.Prelude.{◌≡◌, IfOk};
 ghost use Rattle.sr_model.specs.Dsr.{LineHasPivot, lemma_line};
-ghost use Rattle.sr_lemma.specs.Lines.{lemma_told, GivesLemma};
+ghost use Rattle.sr_lemma.specs.Lines.{lemma_told, line_of, clause_told, GivesLemma};
 
 use crate::witnesses::{find_clause, find_witness};
 use sr_base::{Clause, LitList};
@@ -40,5 +40,17 @@ impl Lemma {
             return Err(InFault::NoMemory);
         };
         Ok(Lemma { clause, witness })
+    }
+}
+
+impl DsrLine {
+    /// The literals of the clause, in a list whose memory may be used for the next line.
+    pub fn into_list(self) -> LitList
+        ensures { result ≡ clause_told (line_of self) }
+    {
+        match self {
+            DsrLine::Add(Lemma { clause, .. }) => clause.into_list(),
+            DsrLine::Del(clause) => clause.into_list(),
+        }
     }
 }

@@ -4,7 +4,6 @@
 mod front;
 mod laws;
 mod lemma;
-mod lists;
 mod literals;
 mod witnesses;
 mod write;
@@ -12,7 +11,6 @@ mod write;
 pub use front::{misplaced, next_token};
 pub use laws::{binary_machine_spells, binary_tokens_stand};
 pub use lemma::{DsrLine, Lemma};
-pub use lists::push_with_room;
 pub use literals::{read_all_literals, read_literals, read_more_literals};
 pub use witnesses::{find_clause, find_witness};
 pub use write::{put_clause, put_end, put_number};

@@ -255,6 +255,35 @@ pub fn read_item<D: Desk>(
     }
 }
 
+/// The next item as [`next_item`] gives it, read and made in the memory of these lists. [`ItemLists::reuse`] gives it back.
+///
+/// # Errors
+///
+/// As [`next_item`].
+pub fn next_item_in<D: Desk>(
+    alloc: Global,
+    form: Form,
+    lists: &mut ItemLists,
+    reader: &mut ByteReader,
+    desk: &mut D,
+    limits: &Limits,
+) -> Result<Option<LsrItem>, InFault>
+    requires { IsTrue ((D.outside desk.old).slot reader.old.slot).reads }
+    ensures item { GivesItem form limits.now (tokens_left form 2 0 reader.old (D.outside desk.old)) (tokens_left form 2 0 reader.new (D.outside desk.new)) result }
+    ensures takes { IfOk result (λ o. OnSome o (TakesSome reader.old reader.new)) }
+    ensures small { IfOk result (λ o. IfSome o (λ x. IsSmallItem (item_of x))) }
+    ensures pivot { IfOk result (λ o. IfSome o (λ x. ItemHasPivot (item_of x))) }
+    ensures same { IsSameReader reader.old reader.new }
+    ensures only { OnlyReads reader.old.slot (D.outside desk.old) (D.outside desk.new) }
+    ensures cause { HasInCause reader.old.slot (D.outside desk.old) (D.outside desk.new) result }
+{
+    let Some(frame) = read_item(form, lists, reader, desk, limits)? else {
+        return Ok(None);
+    };
+    let item = make_item(alloc, frame, lists)?;
+    Ok(Some(item))
+}
+
 /// The next item of a proof by hints; none where only white space and comments are left (text) or nothing
 /// (binary). A step's witness has the first literal of its clause as its pivot, and [`item_bytes`] takes
 /// the item.
@@ -286,9 +315,5 @@ pub fn next_item<D: Desk>(
     let Ok(mut lists) = ItemLists::new(alloc) else {
         return Err(InFault::NoMemory);
     };
-    let Some(frame) = read_item(form, &mut lists, reader, desk, limits)? else {
-        return Ok(None);
-    };
-    let item = make_item(alloc, frame, &mut lists)?;
-    Ok(Some(item))
+    next_item_in(alloc, form, &mut lists, reader, desk, limits)
 }

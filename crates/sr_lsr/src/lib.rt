@@ -13,6 +13,6 @@ mod tests;
 mod write;
 
 pub use hints::Hints;
-pub use items::{next_item, read_item};
+pub use items::{next_item, next_item_in, read_item};
 pub use lists::{ItemFrame, ItemLists, make_item};
 pub use write::item_bytes;

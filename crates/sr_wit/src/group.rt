@@ -47,6 +47,14 @@ impl GroupList {
         }
     }
 
+    /// Removes all groups. The list keeps its memory.
+    pub fn clear(&mut self)
+        ensures { self.new ≡ [] }
+    {
+        self.starts.clear();
+        self.hints.clear();
+    }
+
     /// The number of groups.
     #[inline]
     pub fn len(&self) -> usize

@@ -19,5 +19,5 @@ pub use group::GroupList;
 pub use item::{ItemList, LsrItem, StepList};
 pub use reduce::Reduced;
 pub use sr_model::Image;
-pub use step::Step;
+pub use step::{Step, StepLists};
 pub use subst::{Subst, SubstFault};

@@ -7,7 +7,7 @@ ghost use Rattle.sr_wit.specs.Steps.{step_with, LacksPivot};
 
 use crate::group::GroupList;
 use crate::subst::Subst;
-use sr_base::{Clause, IdList, Lit};
+use sr_base::{Clause, IdList, Lit, LitList};
 use std::marker::Model;
 
 /// A step: the clause that it adds under its number, its witness where one is written, the hints of its
@@ -30,6 +30,14 @@ impl Model for Step {
     ghost view = { λ s. step_with s.id s.clause s.witness s.prefix s.groups };
 
     ghost invariant = { λ s. HasPivot (step_with s.id s.clause s.witness s.prefix s.groups) };
+}
+
+/// The lists of a step: the literals of its clause in order, the hints of its prefix, and its groups.
+#[derive(Drop)]
+pub struct StepLists {
+    pub lits: LitList,
+    pub prefix: IdList,
+    pub groups: GroupList,
 }
 
 impl Step {
@@ -80,6 +88,26 @@ impl Step {
     {
         let Step { clause, .. } = self;
         clause
+    }
+
+    /// The lists of the step, for the step. Its witness is let go.
+    pub fn into_lists(self) -> StepLists
+        ensures lits { result.lits ≡ self.clause }
+        ensures prefix { result.prefix ≡ self.prefix }
+        ensures groups { result.groups ≡ self.groups }
+    {
+        let Step {
+            clause,
+            prefix,
+            groups,
+            ..
+        } = self;
+        let lits = clause.into_list();
+        StepLists {
+            lits,
+            prefix,
+            groups,
+        }
     }
 
     /// The witness, where one is written. Its pivot is the clause's first literal.
