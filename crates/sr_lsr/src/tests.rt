@@ -3,7 +3,7 @@ ghost use Rattle.std.specs.Prelude.{◌≡◌, true, IsTrue};
 ghost use Rattle.sr_wit.specs.LsrItems.{item_of};
 ghost use Rattle.sr_lsr.specs.Written.{IsSmallItem};
 
-use crate::{item_bytes, next_item};
+use crate::{ItemLists, item_bytes, next_item, next_item_in};
 use sr_base::{ByteList, Form, Limits, TextKind};
 use sr_desk::{ByteReader, Desk, MemoryDesk};
 use sr_wit::{InFault, LsrItem};
@@ -55,11 +55,15 @@ fn rewritten<D: Desk>(
 {
     let limits = Limits::shipped();
     let mut out = ByteList::new(alloc);
+    let Ok(mut lists) = ItemLists::new(alloc) else {
+        return Err(InFault::NoMemory);
+    };
     'items: loop {
-        let Some(item) = next_item(alloc, forms.0, reader, desk, &limits)? else {
+        let Some(item) = next_item_in(alloc, forms.0, &mut lists, reader, desk, &limits)? else {
             return Ok(out);
         };
         add(alloc, forms.1, &item, &mut out)?;
+        lists.reuse(item);
     }
 }
 
@@ -92,6 +96,23 @@ fn items_are_written_as_they_are_read(rt: HostRuntime) -> Result<(), Fail> {
                 "{fault:?}"
             )))?;
             assert!(rt; out.as_slice() == wanted);
+        }
+    }
+    Ok(())
+}
+
+/// The first item of a file has lists of its own.
+#[test]
+fn an_item_is_read_alone(rt: HostRuntime) -> Result<(), Fail> {
+    let alloc = rt.alloc();
+    for (form, bytes) in [(Form::Text, TEXT.as_bytes()), (Form::Binary, BINARY)] {
+        let mut desk = MemoryDesk::new(alloc)?;
+        desk.put_file("p", bytes)?;
+        let slot = desk.begin_read("p")?;
+        let mut reader = ByteReader::new(alloc, slot, Limits::shipped().bytes())?;
+        match next_item(alloc, form, &mut reader, &mut desk, &Limits::shipped()) {
+            Ok(Some(LsrItem::Drop { ids, .. })) => assert!(rt; ids.as_slice() == [2].as_slice()),
+            _ => return Err(Fail::from("a deletion is wanted")),
         }
     }
     Ok(())

@@ -2,9 +2,9 @@
 ghost use Rattle.std.specs.Prelude.{IsTrue};
 ghost use Rattle.sr_desk.specs.MemoryView.{outside_of};
 
-use sr_base::{ByteList, Form, LimitKind, Limits, TextKind};
+use sr_base::{ByteList, Form, LimitKind, Limits, LitList, TextKind};
 use sr_desk::{ByteReader, Desk, MemoryDesk};
-use sr_dsr::{line_bytes, next_line};
+use sr_dsr::{DsrLine, line_bytes, next_line, next_line_in};
 use sr_wit::InFault;
 use std::alloc::Global;
 use std::test::Fail;
@@ -28,13 +28,15 @@ fn write_again(
 {
     let limits = Limits::shipped();
     let mut out = ByteList::new(alloc);
+    let mut lits = LitList::new(alloc);
     'lines: loop {
-        match next_line(alloc, from, reader, desk, &limits) {
+        match next_line_in(alloc, from, &mut lits, reader, desk, &limits) {
             Err(fault) => return Ok(Err(fault)),
             Ok(None) => return Ok(Ok(out)),
             Ok(Some(line)) => {
                 let bytes = line_bytes(alloc, to, &line).map_err(|_| "no memory")?;
                 out.extend(bytes.as_slice()).map_err(|_| "no memory")?;
+                lits = line.into_list();
             }
         }
     }
@@ -107,6 +109,24 @@ fn lines_are_written_as_they_were_read(rt: HostRuntime) -> Result<(), Fail> {
         gives(alloc, Form::Text, Form::Binary, pair.text, pair.binary)?;
         gives(alloc, Form::Binary, Form::Text, pair.binary, pair.text)?;
         gives(alloc, Form::Binary, Form::Binary, pair.binary, pair.binary)?;
+    }
+    Ok(())
+}
+
+/// The line at the front has literals of its own.
+#[test]
+fn a_line_is_read_alone(rt: HostRuntime) -> Result<(), Fail> {
+    let alloc = rt.alloc();
+    for (form, bytes) in [(Form::Text, DELETION.text), (Form::Binary, DELETION.binary)] {
+        let mut desk = MemoryDesk::new(alloc)?;
+        desk.put_file("p", bytes)?;
+        desk.restart();
+        let slot = desk.begin_read("p").map_err(|_| "no file")?;
+        let mut reader = ByteReader::new(alloc, slot, Limits::shipped().bytes())?;
+        match next_line(alloc, form, &mut reader, &mut desk, &Limits::shipped()) {
+            Ok(Some(DsrLine::Del(clause))) => assert!(rt; clause.lits().len() == 2),
+            _ => return Err(Fail::from("a deletion is wanted")),
+        }
     }
     Ok(())
 }
