@@ -53,6 +53,15 @@ spelled_value-large (suc k) v some le =
     let one : suc k - 1 ≡ k = omega arith in
     rw (t, one) refl
 
+-- in two bytes, and in three
+pub spelled_two : (v : ℕ) → 128 ≤ v → v / 128 < 128 → spelled_value 9 v ≡ (128 + v % 128) ∷ v / 128 ∷ []
+spelled_two v le lt = spelled_value-large 9 v (omega arith) le ∙ ap (λ (ls : List ℕ). (128 + v % 128) ∷ ls) (spelled_value-small 8 (v / 128) lt)
+
+pub spelled_three : (v : ℕ) → 128 ≤ v → 128 ≤ v / 128 → v / 128 / 128 < 128 → spelled_value 9 v ≡ (128 + v % 128) ∷ (128 + v / 128 % 128) ∷ v / 128 / 128 ∷ []
+spelled_three v le more lt =
+    spelled_value-large 9 v (omega arith) le
+        ∙ ap (λ (ls : List ℕ). (128 + v % 128) ∷ ls) (spelled_value-large 8 (v / 128) (omega arith) more ∙ ap (λ (ls : List ℕ). (128 + v / 128 % 128) ∷ ls) (spelled_value-small 7 (v / 128 / 128) lt))
+
 pub record SpellsBytes (bytes : List ℕ) (len left value : ℕ) : Type 0 where
   pub few : len ≤ 4
   pub room : left < 128 ^ (5 - len)

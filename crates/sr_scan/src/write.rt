@@ -74,6 +74,41 @@ fn spell_value(bytes: &mut [u8; 5], value: u64) -> usize
     len + 1
 }
 
+/// Adds the bytes that spell a value, however many they are.
+#[inline(never)]
+fn put_value(out: &mut ByteList, value: u64) -> Result<(), NoMemory>
+    requires { value < 2 ^ 32 }
+    ensures ok { OnOk result (out.new ≡ out.old ++ spelled_value 9 value) }
+    ensures err { OnErr result (out.new ≡ out.old) }
+{
+    let mut bytes = [0; 5];
+    let len = spell_value(&mut bytes, value);
+    out.extend(&bytes[..len])
+}
+
+/// Adds the bytes that spell a value: one, two or three, as of nearly all values, or more.
+#[inline(always)]
+fn put_short_value(out: &mut ByteList, value: u64) -> Result<(), NoMemory>
+    requires { value < 2 ^ 32 }
+    ensures ok { OnOk result (out.new ≡ out.old ++ spelled_value 9 value) }
+    ensures err { OnErr result (out.new ≡ out.old) }
+{
+    if value < 128 {
+        return out.push(value as u8);
+    }
+    let first = 128 + (value % 128) as u8;
+    let left = value / 128;
+    if left < 128 {
+        return out.extend(&[first, left as u8]);
+    }
+    let second = 128 + (left % 128) as u8;
+    let last = left / 128;
+    if last < 128 {
+        return out.extend(&[first, second, last as u8]);
+    }
+    put_value(out, value)
+}
+
 /// Writes a number as a binary file spells it, in as few bytes as it takes: seven bits in each, the
 /// least first, and the top bit set on all but the last.
 ///
@@ -85,7 +120,5 @@ pub fn put_number_binary(out: &mut ByteList, value: i64) -> Result<(), NoMemory>
     ensures ok { OnOk result (out.new ≡ out.old ++ number_bytes value) }
     ensures err { OnErr result (out.new ≡ out.old) }
 {
-    let mut bytes = [0; 5];
-    let len = spell_value(&mut bytes, value_of(value));
-    out.extend(&bytes[..len])
+    put_short_value(out, value_of(value))
 }
