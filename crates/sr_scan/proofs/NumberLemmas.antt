@@ -60,7 +60,7 @@ spelled_two v le lt = spelled_value-large 9 v (omega arith) le ∙ ap (λ (ls : 
 pub spelled_three : (v : ℕ) → 128 ≤ v → 128 ≤ v / 128 → v / 128 / 128 < 128 → spelled_value 9 v ≡ (128 + v % 128) ∷ (128 + v / 128 % 128) ∷ v / 128 / 128 ∷ []
 spelled_three v le more lt =
     spelled_value-large 9 v (omega arith) le
-        ∙ ap (λ (ls : List ℕ). (128 + v % 128) ∷ ls) (spelled_value-large 8 (v / 128) (omega arith) more ∙ ap (λ (ls : List ℕ). (128 + v / 128 % 128) ∷ ls) (spelled_value-small 7 (v / 128 / 128) lt))
+    ∙ ap (λ (ls : List ℕ). (128 + v % 128) ∷ ls) (spelled_value-large 8 (v / 128) (omega arith) more ∙ ap (λ (ls : List ℕ). (128 + v / 128 % 128) ∷ ls) (spelled_value-small 7 (v / 128 / 128) lt))
 
 pub record SpellsBytes (bytes : List ℕ) (len left value : ℕ) : Type 0 where
   pub few : len ≤ 4
