@@ -1,5 +1,5 @@
 -- Items that were read but not made yet: a frame, and lists.
-use Rattle.std.specs.Prelude.{◌≡◌, Option, Some, None, Result, Ok, Err, All}
+use Rattle.std.specs.Prelude.{◌≡◌, [], Option, Some, None, Result, Ok, Err, All}
 use Rattle.sr_model.specs.Judging.{stepped, dropped}
 use Rattle.sr_model.specs.Texts.{Texts}
 use Rattle.sr_model.specs.Witnesses.{clause_of_literals, witness_of_literals, fault_of_literals}
@@ -53,3 +53,11 @@ IsSmallFrame (Drop id) lists = IsSmall id × All IsSmall lists.ids
 abbrev pub holds_parts : LsrItem → ItemLists → ItemLists
 holds_parts (made.Step s) lists = record { lits = s.clause; hints = record { prefix = s.prefix; groups = s.groups }; ids = lists.ids }
 holds_parts (made.Drop id ids) lists = record lists { ids = ids }
+
+abbrev pub no_lists : ItemLists
+no_lists = record { lits = []; hints = record { prefix = []; groups = [] }; ids = [] }
+
+-- the lists without those of an item
+abbrev pub left_by : ItemFrame → ItemLists → ItemLists
+left_by (Step id end) lists = record no_lists { ids = lists.ids }
+left_by (Drop id) lists = record lists { ids = [] }

@@ -2,7 +2,7 @@
 ghost use Rattle.std.specs.Prelude.{◌≡◌, IfOk};
 ghost use Rattle.sr_model.specs.Judging.{ItemHasPivot};
 ghost use Rattle.sr_wit.specs.LsrItems.{item_of};
-ghost use Rattle.sr_lsr.specs.Frames.{MakesItem, IsSmallFrame, holds_parts};
+ghost use Rattle.sr_lsr.specs.Frames.{MakesItem, IsSmallFrame, no_lists, left_by, holds_parts};
 ghost use Rattle.sr_lsr.specs.Written.{IsSmallItem};
 
 use crate::hints::Hints;
@@ -35,7 +35,9 @@ pub enum ItemFrame {
 
 impl ItemLists {
     /// Empty lists, with room for the literals and the hints of most steps.
-    pub fn new(alloc: Global) -> Result<ItemLists, NoMemory> {
+    pub fn new(alloc: Global) -> Result<ItemLists, NoMemory>
+        ensures { IfOk result (λ l. l ≡ no_lists) }
+    {
         Ok(ItemLists {
             lits: Items::with_capacity(alloc, ROOM)?,
             hints: Hints {
@@ -65,8 +67,8 @@ impl ItemLists {
     }
 }
 
-/// The item of its frame and the lists that were read with it, which are taken over as far as they are its own.
-/// A step's witness has the first literal of its clause as its pivot.
+/// The item of its frame and the lists that were read with it. Those that are its own are taken over, and left empty. A
+/// step's witness has the first literal of its clause as its pivot.
 ///
 /// # Errors
 ///
@@ -74,6 +76,7 @@ impl ItemLists {
 /// `Twice` where a variable gets two different images.
 pub fn make_item(alloc: Global, frame: ItemFrame, lists: &mut ItemLists) -> Result<LsrItem, InFault>
     ensures item { MakesItem frame lists.old result }
+    ensures lists { lists.new ≡ left_by frame lists.old }
     ensures small { IsSmallFrame frame lists.old → IfOk result (λ x. IsSmallItem (item_of x)) }
     ensures pivot { IfOk result (λ x. ItemHasPivot (item_of x)) }
 {
