@@ -1,8 +1,8 @@
 #!/bin/sh
 # CPU seconds and peak memory of reading a proof, and of reading it and writing it again.
 # usage: bench/copy.sh KIND FROM TO FILE [RUNS]
-# KIND is lsr or dsr, FROM is text or binary, TO is one of these two, or lists or items for reading alone. Build it first:
-# cd crates/sr_copy && rt run -- lsr text lists data/p
+# KIND is lsr or dsr, FROM is text or binary, TO is one of these two, or items for reading alone. Build it first:
+# cd crates/sr_copy && rt run -- lsr text items data/p
 here=$(cd "$(dirname "$0")/.." && pwd) || exit 1
 kind=$1 from=$2 to=$3 file=$4 runs=${5:-3}
 [ -n "$file" ] || { sed -n '2,5p' "$0" >&2; exit 2; }

@@ -2,20 +2,25 @@
 //! outcome.
 #![tactic(auto)]
 
-use sr_desk::HostDesk;
+ghost use Rattle.std.specs.Prelude.{◌≡◌, ◌⊎◌, IfErr, map, string_bytes};
+ghost use Rattle.sr.specs.Ends.{Ends, EndsAs};
+
+use sr_desk::{Desk, HostDesk};
 use std::alloc::Global;
 use std::env;
 use std::env::Env;
 use std::io::ErrorKind;
 use std::process::ExitCode;
 
-/// The status for want of memory.
+/// The status where memory runs out.
 const NO_MEMORY: u8 = 7;
 /// The status where the words of the command line can't be read.
 const NO_WORDS: u8 = 9;
 
 /// The words of the command line without the program's name, or the status that tells why there are none.
-fn words(rt: &(impl Env + AllocGlobal)) -> Result<Vec<String>, u8> {
+fn words(rt: &(impl Env + AllocGlobal)) -> Result<Vec<String>, u8>
+    ensures { IfErr result (λ s. (s ≡ 7) ⊎ (s ≡ 9)) }
+{
     let alloc: Global = rt.alloc();
     match env::args(rt) {
         Ok(args) => args.skip(1).collect(alloc).map_err(|_| NO_MEMORY),
@@ -24,13 +29,26 @@ fn words(rt: &(impl Env + AllocGlobal)) -> Result<Vec<String>, u8> {
     }
 }
 
-fn main(rt: HostRuntime) -> ExitCode {
-    let words = match words(&rt) {
-        Ok(words) => words,
-        Err(status) => return ExitCode::from(status),
-    };
-    let alloc = rt.alloc();
-    let mut desk = HostDesk::new(rt);
-    let outcome = sr_cli::run(alloc, words.as_slice(), &mut desk);
+/// Runs the words on the outside. The status is that of the outcome.
+fn run<D: Desk>(alloc: Global, words: &[String], desk: &mut D) -> ExitCode
+    requires { (D.outside desk.old).begun ≡ 0 }
+    ensures { EndsAs (map string_bytes words.now) (D.outside desk.old) (D.outside desk.new) result }
+{
+    let outcome = sr_cli::run(alloc, words, desk);
     ExitCode::from(outcome.status())
+}
+
+/// Runs the words of the command line on the real outside.
+fn run_on(rt: HostRuntime) -> ExitCode
+    ensures { Ends result }
+{
+    let alloc = rt.alloc();
+    match words(&rt) {
+        Ok(words) => run(alloc, words.as_slice(), &mut HostDesk::new(rt)),
+        Err(status) => ExitCode::from(status),
+    }
+}
+
+fn main(rt: HostRuntime) -> ExitCode {
+    run_on(rt)
 }

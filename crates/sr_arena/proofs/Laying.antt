@@ -1,294 +1,236 @@
--- Lemmas on how cells lie in the two regions.
-use Rattle.std.proofs.Common.{◌≡◌, ◌≢◌, ◌⊎◌, inl, inr, ◌<◌, ◌≤◌, ◌+◌, ◌*◌, ◌-◌, ◌/◌, ◌%◌, ℕ, min, suc, zero, Bool, true, false, ◌==◌, ltb, List, [], ◌∷◌, ◌++◌, refl, sym, ◌∙◌, ap, subst, arith, length, get_or, set, take, drop, get_or-set_same, get_or-set_other}
+-- Lemmas on what is read and written of a clause in the region.
+use Rattle.std.proofs.Common.{◌≡◌, ◌<◌, ◌≤◌, ◌+◌, ◌*◌, ◌-◌, ◌/◌, ◌%◌, ℕ, suc, zero, Bool, true, false, ◌==◌, cond, List, [], ◌∷◌, ◌++◌, refl, sym, ◌∙◌, ap, subst, arith, length, get_or, set, take, drop, map}
 use Rattle.std.specs.List.{swap}
-use Rattle.std.proofs.lemmas.List.{ext_get_or, get_or-take, get_or-drop, length-take, length-drop, length-map, length-set, get_or_past, take-append-le, drop-append-le, map-append, get_or_append_left, get_or_default, get_or_at, length-append, take_all, drop_at}
-use Rattle.std.proofs.lemmas.List.Edits.{swapped_from_swap, length-swap}
-use Rattle.std.proofs.lemmas.Bool.Decides.{nat_tests}
-use Rattle.std.proofs.lemmas.Bool.{cases_eq}
-use borrow.Author.Tests.{ltb-false}
+use Rattle.std.proofs.lemmas.List.{take_at, length-append, length-map}
+use Rattle.std.proofs.lemmas.List.Edits.{length-swap}
 use mir.Val.{bool_byte}
-use Rattle.sr_base.specs.Literal.{Literal, plus}
-use Rattle.sr_arena.specs.declared.headers.Header.{Header}
-use Rattle.sr_arena.specs.Cells.{Cell, gone, held_cell}
-use Rattle.sr_arena.specs.Layout.{nowhere, len_of, mark_of, cell_of, cells_of, no_header, header_at, Laid, laid_of, laid_at, lay, with_cell, IsLaid}
-use Rattle.sr_arena.proofs.Weighing.{held_within}
+use Rattle.sr_base.specs.Literal.{Literal}
+use Rattle.sr_base.specs.LiteralCode.{at_of_code}
+use Rattle.sr_base.specs.Words.{literal_in, word_of, AllLiterals}
+use Rattle.sr_base.specs.declared.words.Word.{Word}
+use Rattle.sr_arena.specs.Cells.{Cell, gone, held_cell, fresh}
+use Rattle.sr_arena.specs.Layout.{size_of, is_marked, is_flagged, is_freed, clause, cells_from, cells_of, IsWalk, Laid, laid_of, laid_at, lay, with_cell, IsLaid, gones}
+use Rattle.sr_arena.proofs.Clauses.{between, between_walk, between_is, between_length, set_first, set_second, get_first, get_second, drop_second, IsBlock, parted, swap_body, all_swap, map_swap, walk_append, cells_append, cells_length, block, block_walk, block_is}
 
-by_eq : {P : Type 0} (a b : ℕ) → (a ≡ b → P) → (a ≢ b → P) → P
-by_eq {P} a b f g = at (cases_eq a b)
-  where
-    at : (a ≡ b) ⊎ (a ≡ b → ⊥) → P
-    at (inl e) = f e
-    at (inr n) = g n
+pub by_test : {P : Type 0} (b : Bool) → (b ≡ true → P) → (b ≡ false → P) → P
+by_test true f g = f refl
+by_test false f g = g refl
 
-by_less : {P : Type 0} (a b : ℕ) → a ≢ b → (a < b → P) → (b < a → P) → P
-by_less {P} a b ne f g = at (ltb a b) refl
-  where
-    at : (t : Bool) → ltb a b ≡ t → P
-    at true e = f (grind (arith, nat_tests))
-    at false e = g (omega (arith, ltb-false, ne))
+-- the cell of a held clause
+abbrev pub whole : Word → Word → List Word → Cell
+whole number size body = held_cell (map literal_in body) number.code (is_marked size) (is_flagged size)
 
--- the cell of a reference is that of its header
-pub cell_is : (ls : List Literal) (hs : List Header) (i : ℕ) → get_or (cells_of ls hs) i gone ≡ cell_of ls (header_at hs i)
-cell_is ls [] i = refl
-cell_is ls (h ∷ hs) zero = refl
-cell_is ls (h ∷ hs) (suc i) = cell_is ls hs i
+-- a held clause, and where it lies
+pub record Found (ls : List Word) (at : ℕ) (c : Cell) : Type 0 where
+  pub front : List Word
+  pub number : Word
+  pub size : Word
+  pub body : List Word
+  pub rest : List Word
+  pub is : ls ≡ between front number size body rest
+  pub place : at ≡ length front + 2
+  pub before : IsWalk 0 front
+  pub sized : IsBlock size body
+  pub after : IsWalk 0 rest
+  pub kept : is_freed size ≡ false
+  pub cell : c ≡ whole number size body
+  pub fits : at + length body ≤ length ls
 
--- the literals of a header
-abbrev pub part : List Literal → Header → List Literal
-part ls h = take (len_of h) (drop h.place ls)
+clause_held : (number size : Word) (body : List Word) → (clause number size body).held ≡ true → clause number size body ≡ whole number size body
+clause_held number size body h = by_test (is_freed size)
+    (λ t. let g : (clause number size body).held ≡ false = rw t refl in absurd cc)
+    (λ t. rw t refl)
 
--- a cell with its literals
-abbrev pub whole : List Literal → Header → Cell
-whole ls h = held_cell (part ls h) h.first h.second (mark_of h)
+clause_kept : (number size : Word) (body : List Word) → (clause number size body).held ≡ true → is_freed size ≡ false
+clause_kept number size body h = by_test (is_freed size)
+    (λ t. let g : (clause number size body).held ≡ false = rw t refl in absurd cc)
+    (λ t. t)
 
-pub cell_whole : (ls : List Literal) (h : Header) → h.place ≢ nowhere → cell_of ls h ≡ whole ls h
-cell_whole ls h n = let f : (h.place == nowhere) ≡ false = grind (arith, nat_tests) in rw f refl
-
-pub cell_gone : (ls : List Literal) (h : Header) → h.place ≡ nowhere → cell_of ls h ≡ gone
-cell_gone ls h n = let f : (h.place == nowhere) ≡ true = grind (arith, nat_tests) in rw f refl
-
-place_of_held : (ls : List Literal) (h : Header) → (cell_of ls h).held ≡ true → h.place ≢ nowhere
-place_of_held ls h e n = let g : (cell_of ls h).held ≡ false = ap (λ (c : Cell). c.held) (cell_gone ls h n) in absurd cc
-
--- what is known of the header of a held clause
-pub record Found (ls : List Literal) (hs : List Header) (at : ℕ) (h : Header) (c : Cell) : Type 0 where
-  pub lt : at < length hs
-  pub is : header_at hs at ≡ h
-  pub placed : h.place ≢ nowhere
-  pub cell : c ≡ whole ls h
-  pub fits : h.place + len_of h ≤ length ls
-  pub length_is : length c.lits ≡ len_of h
-
-pub found : (ls : List Literal) (hs : List Header) (at : ℕ) (h : Header) (m : Laid) → IsLaid ls hs → laid_of ls hs ≡ m → (laid_at m at).held ≡ true → h ≡ get_or hs at h → Found ls hs at h (laid_at m at)
-found ls hs at h m laid view held read =
-    let cells : cells_of ls hs ≡ m.cells = ap (λ (x : Laid). x.cells) view in
-    let here : laid_at m at ≡ cell_of ls (header_at hs at) = sym (ap (λ xs. get_or xs at gone) cells) ∙ cell_is ls hs at in
-    let lt : at < length hs = omega (arith, held_within m.cells at held, ap length cells, length-map hs (cell_of ls)) in
-    let is : header_at hs at ≡ h = get_or_default hs at no_header h lt ∙ sym read in
-    let cell_h : laid_at m at ≡ cell_of ls h = here ∙ ap (cell_of ls) is in
-    let placed : h.place ≢ nowhere = place_of_held ls h (subst (λ (c : Cell). c.held ≡ true) cell_h held) in
-    let cell : laid_at m at ≡ whole ls h = cell_h ∙ cell_whole ls h placed in
-    let fits : h.place + len_of h ≤ length ls = subst (λ (x : Header). x.place ≢ nowhere → x.place + len_of x ≤ length ls) is (laid.within at) placed in
+pub found : (ls : List Word) (used free at : ℕ) (m : Laid) → IsLaid ls used → laid_of ls used free ≡ m → (laid_at m at).held ≡ true → Found ls at (laid_at m at)
+found ls used free zero m l view held =
+    let here : (get_or (cells_of ls) 0 gone).held ≡ true = subst (λ (x : Laid). (get_or x.cells 0 gone).held ≡ true) (sym view) held in
+    absurd cc
+found ls used free (suc i) m l view held =
+    let here : (get_or (cells_from 0 ls) i gone).held ≡ true = subst (λ (x : Laid). (get_or x.cells (suc i) gone).held ≡ true) (sym view) held in
+    let p = parted 0 ls i l.walk here in
+    let cells : cells_from 0 ls ≡ cells_from 0 p.front ++ (gone ∷ clause p.number p.size p.body ∷ (gones (length p.body) ++ cells_from 0 p.rest)) = ap (cells_from 0) p.is ∙ between_is p.front p.number p.size p.body p.rest p.before p.sized in
+    let spot : i ≡ length (cells_from 0 p.front) + 1 = omega (arith, p.place, cells_length 0 p.front) in
+    let second : get_or (cells_from 0 ls) i gone ≡ clause p.number p.size p.body = ap (λ cs. get_or cs i gone) cells ∙ get_second (cells_from 0 p.front) gone (clause p.number p.size p.body) gone (gones (length p.body) ++ cells_from 0 p.rest) i spot in
+    let cell_h : (clause p.number p.size p.body).held ≡ true = ap (λ (c : Cell). c.held) (sym second) ∙ here in
     record {
-      lt = lt;
-      is = is;
-      placed = placed;
-      cell = cell;
-      fits = fits;
-      length_is = ap (λ (c : Cell). length c.lits) cell ∙ omega (arith, fits, length-take (len_of h) (drop h.place ls), length-drop h.place ls);
+      front = p.front;
+      number = p.number;
+      size = p.size;
+      body = p.body;
+      rest = p.rest;
+      is = p.is;
+      place = omega (arith, p.place);
+      before = p.before;
+      sized = p.sized;
+      after = p.after;
+      kept = clause_kept p.number p.size p.body cell_h;
+      cell = ap (λ (x : Laid). get_or x.cells (suc i) gone) (sym view) ∙ second ∙ clause_held p.number p.size p.body cell_h;
+      fits = omega (arith, p.place, ap length p.is, between_length p.front p.number p.size p.body p.rest);
     }
 
--- two regions that differ in one cell
-cells_put : (ls ls' : List Literal) (hs hs' : List Header) (at : ℕ) (c : Cell) → length hs' ≡ length hs → at < length hs → cell_of ls' (header_at hs' at) ≡ c
-    → ((k : ℕ) → k ≢ at → cell_of ls' (header_at hs' k) ≡ cell_of ls (header_at hs k)) → cells_of ls' hs' ≡ set (cells_of ls hs) at c
-cells_put ls ls' hs hs' at c n within here others =
-    ext_get_or gone (cells_of ls' hs') (set (cells_of ls hs) at c) (simp (length-set, length-map) n)
-    (λ k h. by_eq k at
-    (λ e. let lt : at < length (cells_of ls hs) = simp length-map within in cell_is ls' hs' k ∙ subst (λ j. cell_of ls' (header_at hs' j) ≡ get_or (set (cells_of ls hs) at c) j gone) (sym e) (here ∙ sym (get_or-set_same (cells_of ls hs) at c gone lt)))
-    (λ ne. cell_is ls' hs' k ∙ others k ne ∙ sym (cell_is ls hs k) ∙ sym (get_or-set_other (cells_of ls hs) at k c gone ne)))
+-- the two words, as they are read
+pub read_number : (ls : List Word) (at n : ℕ) (c : Cell) (w : Word) (f : Found ls at c) → n ≡ at - 2 → w ≡ get_or ls n w → w ≡ f.number
+read_number ls at n c w f e r = r ∙ ap (λ l. get_or l n w) f.is ∙ get_first f.front f.number w (f.size ∷ (f.body ++ f.rest)) n (omega (arith, f.place))
 
-lay_is : (m : Laid) (ls ls' : List Literal) (hs hs' : List Header) (at : ℕ) (c : Cell) → laid_of ls hs ≡ m → length ls' ≡ length ls → length hs' ≡ length hs → cells_of ls' hs' ≡ set (cells_of ls hs) at c → laid_of ls' hs' ≡ lay m at c
-lay_is m ls ls' hs hs' at c view n k e = subst (λ x. laid_of ls' hs' ≡ lay x at c) view (rw (e, n, k) refl)
+pub read_size : (ls : List Word) (at n : ℕ) (c : Cell) (w : Word) (f : Found ls at c) → n ≡ at - 1 → w ≡ get_or ls n w → w ≡ f.size
+read_size ls at n c w f e r = r ∙ ap (λ l. get_or l n w) f.is ∙ get_second f.front f.number f.size w (f.body ++ f.rest) n (omega (arith, f.place))
 
--- a header that is written in the place of another
-pub laid_set : (ls : List Literal) (hs : List Header) (at : ℕ) (h : Header) → IsLaid ls hs → at < length hs → 0 < at
-    → (h.place ≢ nowhere → (h.place ≡ (header_at hs at).place) × (len_of h ≡ len_of (header_at hs at))) → IsLaid ls (set hs at h)
-laid_set ls hs at h l lt nz same =
-    let other : (i : ℕ) → i ≢ at → header_at (set hs at h) i ≡ header_at hs i = (λ i ne. get_or-set_other hs at i h no_header ne) in
-    let stays : (i : ℕ) → (header_at (set hs at h) i).place ≢ nowhere → ((header_at (set hs at h) i).place ≡ (header_at hs i).place) × (len_of (header_at (set hs at h) i) ≡ len_of (header_at hs i)) =
-    (λ i. by_eq i at
-    (λ e. let here : header_at (set hs at h) i ≡ h = ap (λ j. header_at (set hs at h) j) e ∙ get_or-set_same hs at h no_header lt in
-    rw here (λ ne. let s = same ne in (s.0 ∙ ap (λ j. (header_at hs j).place) (sym e), s.1 ∙ ap (λ j. len_of (header_at hs j)) (sym e))))
-    (λ ne. rw (other i ne) (λ _. (refl, refl)))) in
+pub read_length : (ls : List Word) (at n : ℕ) (c : Cell) (w : Word) (f : Found ls at c) → n ≡ at - 1 → w ≡ get_or ls n w → size_of w ≡ length f.body
+read_length ls at n c w f e r = ap size_of (read_size ls at n c w f e r) ∙ f.sized.sized
+
+-- the words of the literals, as they are read
+pub read_body : (ls : List Word) (at n : ℕ) (c : Cell) (f : Found ls at c) → n ≡ length f.body → take n (drop at ls) ≡ f.body
+read_body ls at n c f e = ap (λ l. take n (drop at l)) f.is ∙ ap (take n) (drop_second f.front f.number f.size (f.body ++ f.rest) at f.place) ∙ take_at f.body f.rest n (sym e)
+
+-- a clause is changed, and what it leaves
+pub record Changed (ls' : List Word) (used free' : ℕ) (m : Laid) (at : ℕ) (c : Cell) : Type 0 where
+  pub laid : IsLaid ls' used
+  pub view : laid_of ls' used free' ≡ lay m at c
+
+changed : (ls ls' : List Word) (used free free' at : ℕ) (m : Laid) (old : Cell) (number size : Word) (body : List Word) (f : Found ls at old) → IsLaid ls used → laid_of ls used free ≡ m → free' ≡ free → IsBlock size body → length body ≡ length f.body → ls' ≡ between f.front number size body f.rest
+    → Changed ls' used free' m at (clause number size body)
+changed ls ls' used free free' at m old number size body f l view ef sized n e =
+    let long : length ls' ≡ length ls = omega (arith, ap length e, ap length f.is, between_length f.front number size body f.rest, between_length f.front f.number f.size f.body f.rest) in
+    let spot : length f.front + 1 ≡ length (cells_from 0 f.front) + 1 = omega (arith, cells_length 0 f.front) in
+    let here : at ≡ suc (length f.front + 1) = omega (arith, f.place) in
+    let before : cells_from 0 ls ≡ cells_from 0 f.front ++ (gone ∷ clause f.number f.size f.body ∷ (gones (length f.body) ++ cells_from 0 f.rest)) = ap (cells_from 0) f.is ∙ between_is f.front f.number f.size f.body f.rest f.before f.sized in
+    let after : cells_from 0 ls' ≡ cells_from 0 f.front ++ (gone ∷ clause number size body ∷ (gones (length f.body) ++ cells_from 0 f.rest)) = ap (cells_from 0) e ∙ between_is f.front number size body f.rest f.before sized ∙ ap (λ k. cells_from 0 f.front ++ (gone ∷ clause number size body ∷ (gones k ++ cells_from 0 f.rest))) n in
+    let cells : cells_from 0 ls' ≡ set (cells_from 0 ls) (length f.front + 1) (clause number size body) =
+    after ∙ sym (ap (λ cs. set cs (length f.front + 1) (clause number size body)) before ∙ set_second (cells_from 0 f.front) gone (clause f.number f.size f.body) (clause number size body) (gones (length f.body) ++ cells_from 0 f.rest) (length f.front + 1) spot) in
     record {
-      dummy = omega (arith, l.dummy, length-set hs at h);
-      none = ap (λ (x : Header). x.place) (other 0 (λ e. absurd (omega arith))) ∙ l.none;
-      within = λ i ne. let s = stays i ne in let p : (header_at hs i).place ≢ nowhere = (λ e. ne (s.0 ∙ e)) in omega (arith, s, l.within i p);
-      apart = λ i j less ne nf.
-          let s = stays i ne in
-          let t = stays j nf in
-          let p : (header_at hs i).place ≢ nowhere = (λ e. ne (s.0 ∙ e)) in
-          let q : (header_at hs j).place ≢ nowhere = (λ e. nf (t.0 ∙ e)) in
-          omega (arith, s, t, l.apart i j less p q);
-      room = omega (arith, l.room, length-set hs at h);
+      laid = record {
+        walk = subst (IsWalk 0) (sym e) (between_walk f.front number size body f.rest f.before sized f.after);
+        within = omega (arith, l.within);
+        room = l.room;
+      };
+      view = subst (λ x. laid_of ls' used free' ≡ lay x at (clause number size body)) view (rw (here, cells, ef) refl);
     }
 
--- 0 names no clause
-pub found_above : (ls : List Literal) (hs : List Header) (at : ℕ) (h : Header) (c : Cell) → IsLaid ls hs → Found ls hs at h c → 0 < at
-found_above ls hs at h c l f = by_eq at 0 (λ e. absurd (f.placed (ap (λ (x : Header). x.place) (sym f.is) ∙ ap (λ k. (header_at hs k).place) e ∙ l.none))) (λ ne. omega arith)
+-- its second word is written
+written : (ls ls' : List Word) (used free free' at n : ℕ) (m : Laid) (old : Cell) (w : Word) (f : Found ls at old) → IsLaid ls used → laid_of ls used free ≡ m → free' ≡ free → size_of w ≡ size_of f.size → n ≡ at - 1 → ls' ≡ set ls n w → Changed ls' used free' m at (clause f.number w f.body)
+written ls ls' used free free' at n m old w f l view ef same e put = changed ls ls' used free free' at m old f.number w f.body f l view ef (record { sized = same ∙ f.sized.sized; all = f.sized.all }) refl
+    (put ∙ ap (λ x. set x n w) f.is ∙ set_second f.front f.number f.size w (f.body ++ f.rest) n (omega (arith, f.place)))
 
-pub lay_set : (m : Laid) (ls : List Literal) (hs : List Header) (at : ℕ) (h : Header) (c : Cell) → laid_of ls hs ≡ m → at < length hs → cell_of ls h ≡ c → laid_of ls (set hs at h) ≡ lay m at c
-lay_set m ls hs at h c view lt e = lay_is m ls ls hs (set hs at h) at c view refl (length-set hs at h)
-    (cells_put ls ls hs (set hs at h) at c (length-set hs at h) lt
-    (ap (cell_of ls) (get_or-set_same hs at h no_header lt) ∙ e)
-    (λ k ne. ap (cell_of ls) (get_or-set_other hs at k h no_header ne)))
+-- the bits of a second word
+low_bits : (h : ℕ) (b f : Bool) → (bool_byte b + 2 * bool_byte f + 8 * h) % 2 ≡ bool_byte b
+low_bits h true true = omega arith
+low_bits h true false = omega arith
+low_bits h false true = omega arith
+low_bits h false false = omega arith
 
--- a header of the same place and length is written
-pub record Rewrites (ls : List Literal) (hs : List Header) (at : ℕ) (h : Header) (m : Laid) (c : Cell) : Type 0 where
-  pub laid : IsLaid ls (set hs at h)
-  pub view : laid_of ls (set hs at h) ≡ lay m at c
+mid_bits : (h : ℕ) (b f : Bool) → (bool_byte b + 2 * bool_byte f + 8 * h) / 2 % 2 ≡ bool_byte f
+mid_bits h true true = omega arith
+mid_bits h true false = omega arith
+mid_bits h false true = omega arith
+mid_bits h false false = omega arith
 
-pub rewrites : (ls : List Literal) (hs : List Header) (at : ℕ) (old h : Header) (m : Laid) (c : Cell) → IsLaid ls hs → laid_of ls hs ≡ m → (laid_at m at).held ≡ true → old ≡ get_or hs at old → h.place ≡ old.place → len_of h ≡ len_of old
-    → (laid_at m at ≡ whole ls old → held_cell (part ls old) h.first h.second (mark_of h) ≡ c) → Rewrites ls hs at h m c
-rewrites ls hs at old h m c laid view held read p n same =
-    let f = found ls hs at old m laid view held read in
-    let placed : h.place ≢ nowhere = (λ e. f.placed (sym p ∙ e)) in
-    record {
-      laid = laid_set ls hs at h laid f.lt (found_above ls hs at old (laid_at m at) laid f) (λ _. (p ∙ sym (ap (λ (x : Header). x.place) f.is), n ∙ sym (ap len_of f.is)));
-      view = lay_set m ls hs at h c view f.lt (cell_whole ls h placed ∙ rw (p, n) (same f.cell));
-    }
+top_bits : (h : ℕ) (b f : Bool) → (bool_byte b + 2 * bool_byte f + 8 * h) / 4 % 2 ≡ 0
+top_bits h true true = omega arith
+top_bits h true false = omega arith
+top_bits h false true = omega arith
+top_bits h false false = omega arith
+
+high_bits : (h : ℕ) (b f : Bool) → (bool_byte b + 2 * bool_byte f + 8 * h) / 8 ≡ h
+high_bits h true true = omega arith
+high_bits h true false = omega arith
+high_bits h false true = omega arith
+high_bits h false false = omega arith
+
+byte_test : (b : Bool) → (bool_byte b == 1) ≡ b
+byte_test true = refl
+byte_test false = refl
+
+-- the mark and the flag are written
+pub bits_written : (ls ls' : List Word) (used free free' at n h : ℕ) (m : Laid) (b g : Bool) (f : Found ls at (laid_at m at)) → IsLaid ls used → laid_of ls used free ≡ m → free' ≡ free → n ≡ at - 1 → h ≡ size_of f.size → ls' ≡ set ls n (record { code = bool_byte b + 2 * bool_byte g + 8 * h })
+    → Changed ls' used free' m at (record (laid_at m at) { marked = b; flagged = g })
+bits_written ls ls' used free free' at n h m b g f l view ef e eh put =
+    let w : Word = record { code = bool_byte b + 2 * bool_byte g + 8 * h } in
+    let mark : is_marked w ≡ b = ap (λ x. x == 1) (low_bits h b g) ∙ byte_test b in
+    let flag : is_flagged w ≡ g = ap (λ x. x == 1) (mid_bits h b g) ∙ byte_test g in
+    let kept : is_freed w ≡ false = ap (λ x. x == 1) (top_bits h b g) in
+    let cell : clause f.number w f.body ≡ record (laid_at m at) { marked = b; flagged = g } =
+    ap (λ t. cond t gone (whole f.number w f.body)) kept
+    ∙ ap (λ x. held_cell (map literal_in f.body) f.number.code x (is_flagged w)) mark
+    ∙ ap (λ x. held_cell (map literal_in f.body) f.number.code b x) flag
+    ∙ ap (λ (c : Cell). record c { marked = b; flagged = g }) (sym f.cell) in
+    subst (Changed ls' used free' m at) cell (written ls ls' used free free' at n m (laid_at m at) w f l view ef (high_bits h b g ∙ eh) e put)
 
 -- a clause is let go
-pub frees : (ls : List Literal) (hs : List Header) (at : ℕ) (old h : Header) (m : Laid) → IsLaid ls hs → laid_of ls hs ≡ m → (laid_at m at).held ≡ true → old ≡ get_or hs at old → h.place ≡ nowhere → Rewrites ls hs at h m gone
-frees ls hs at old h m laid view held read p =
-    let f = found ls hs at old m laid view held read in
+pub freed_written : (ls ls' : List Word) (used free free' at n h : ℕ) (m : Laid) (f : Found ls at (laid_at m at)) → IsLaid ls used → laid_of ls used free ≡ m → free' ≡ free → n ≡ at - 1 → h ≡ size_of f.size → ls' ≡ set ls n (record { code = 4 + 8 * h }) → Changed ls' used free' m at gone
+freed_written ls ls' used free free' at n h m f l view ef e eh put =
+    let w : Word = record { code = 4 + 8 * h } in
+    let bit : (4 + 8 * h) / 4 % 2 ≡ 1 = omega arith in
+    let size : (4 + 8 * h) / 8 ≡ h = omega arith in
+    let kept : is_freed w ≡ true = ap (λ x. x == 1) bit in
+    subst (Changed ls' used free' m at) (ap (λ t. cond t gone (whole f.number w f.body)) kept) (written ls ls' used free free' at n m (laid_at m at) w f l view ef (size ∙ eh) e put)
+
+clause_same : (number size : Word) (body body' : List Word) (c : Cell) → is_freed size ≡ false → c ≡ whole number size body → clause number size body' ≡ record c { lits = map literal_in body' }
+clause_same number size body body' c kept e = ap (λ t. cond t gone (whole number size body')) kept ∙ ap (λ (x : Cell). record x { lits = map literal_in body' }) (sym e)
+
+-- two literals are exchanged
+pub swapped : (ls ls' : List Word) (used free free' at i j : ℕ) (m : Laid) (f : Found ls at (laid_at m at)) → IsLaid ls used → laid_of ls used free ≡ m → free' ≡ free → i < length (laid_at m at).lits → j < length (laid_at m at).lits → ls' ≡ swap ls (at + i) (at + j)
+    → Changed ls' used free' m at (record (laid_at m at) { lits = swap (laid_at m at).lits i j })
+swapped ls ls' used free free' at i j m f l view ef hi hj put =
+    let lits : (laid_at m at).lits ≡ map literal_in f.body = ap (λ (x : Cell). x.lits) f.cell in
+    let i_in : i < length f.body = omega (arith, ap length lits, length-map f.body literal_in) in
+    let j_in : j < length f.body = omega (arith, ap length lits, length-map f.body literal_in) in
+    let long : length (swap f.body i j) ≡ length f.body = length-swap f.body i j in
+    let e : ls' ≡ between f.front f.number f.size (swap f.body i j) f.rest = put ∙ ap (λ x. swap x (at + i) (at + j)) f.is ∙ swap_body f.front f.number f.size f.body f.rest i j (at + i) (at + j) i_in j_in (omega (arith, f.place)) (omega (arith, f.place)) in
+    subst (Changed ls' used free' m at) (clause_same f.number f.size f.body (swap f.body i j) (laid_at m at) f.kept f.cell ∙ ap (λ x. record (laid_at m at) { lits = x }) (map_swap f.body i j i_in j_in ∙ ap (λ x. swap x i j) (sym lits)))
+    (changed ls ls' used free free' at m (laid_at m at) f.number f.size (swap f.body i j) f l view ef (record { sized = f.sized.sized ∙ sym long; all = all_swap f.body i j f.sized.all i_in j_in }) long e)
+
+pub literals_back : (xs : List Literal) → map literal_in (map word_of xs) ≡ xs
+literals_back [] = refl
+literals_back (x ∷ xs) = rw (at_of_code x, literals_back xs) refl
+
+-- the number is written
+pub number_written : (ls ls' : List Word) (used free free' at n k : ℕ) (m : Laid) (f : Found ls at (laid_at m at)) → IsLaid ls used → laid_of ls used free ≡ m → free' ≡ free → n ≡ at - 2 → ls' ≡ set ls n (record { code = k })
+    → Changed ls' used free' m at (record (laid_at m at) { number = k })
+number_written ls ls' used free free' at n k m f l view ef e put =
+    let w : Word = record { code = k } in
+    let cell : clause w f.size f.body ≡ record (laid_at m at) { number = k } =
+    ap (λ t. cond t gone (whole w f.size f.body)) f.kept ∙ ap (λ (x : Cell). record x { number = k }) (sym f.cell) in
+    subst (Changed ls' used free' m at) cell
+    (changed ls ls' used free free' at m (laid_at m at) w f.size f.body f l view ef f.sized refl
+    (put ∙ ap (λ x. set x n w) f.is ∙ set_first f.front f.number w (f.size ∷ (f.body ++ f.rest)) n (omega (arith, f.place))))
+
+-- a clause is added
+pub record Pushed (ls' : List Word) (used' free' : ℕ) (m : Laid) (c : Cell) : Type 0 where
+  pub laid : IsLaid ls' used'
+  pub view : laid_of ls' used' free' ≡ with_cell m c free'
+
+pub pushed : (ls : List Word) (xs : List Literal) (used free free' n : ℕ) (m : Laid) → IsLaid ls used → laid_of ls used free ≡ m → AllLiterals (map word_of xs) → used + length xs + 4 < 4294967296
+    → Pushed (ls ++ (record { code = n } ∷ record { code = 8 * length xs } ∷ map word_of xs)) (used + (length xs + 4)) free' m (fresh xs n)
+pushed ls xs used free free' n m l view all room =
+    let a : Word = record { code = n } in
+    let c : Word = record { code = 8 * length xs } in
+    let body : List Word = map word_of xs in
+    let long : length body ≡ length xs = length-map xs word_of in
+    let eight : 8 * length xs / 8 ≡ length xs = omega arith in
+    let sized : IsBlock c body = record { sized = eight ∙ sym long; all = all } in
+    let bit0 : 8 * length xs % 2 ≡ 0 = omega arith in
+    let bit1 : 8 * length xs / 2 % 2 ≡ 0 = omega arith in
+    let bit2 : 8 * length xs / 4 % 2 ≡ 0 = omega arith in
+    let mark : is_marked c ≡ false = ap (λ x. x == 1) bit0 in
+    let flag : is_flagged c ≡ false = ap (λ x. x == 1) bit1 in
+    let kept : is_freed c ≡ false = ap (λ x. x == 1) bit2 in
+    let cell : clause a c body ≡ fresh xs n =
+    ap (λ t. cond t gone (whole a c body)) kept
+    ∙ ap (λ x. held_cell x n (is_marked c) (is_flagged c)) (literals_back xs)
+    ∙ ap (λ x. held_cell xs n x (is_flagged c)) mark
+    ∙ ap (λ x. held_cell xs n false x) flag in
+    let cells : cells_from 0 (ls ++ block a c body) ≡ cells_from 0 ls ++ (gone ∷ fresh xs n ∷ gones (length xs)) =
+    cells_append 0 ls (block a c body) l.walk ∙ ap (λ cs. cells_from 0 ls ++ cs) (block_is a c body sized ∙ ap (λ x. gone ∷ x ∷ gones (length body)) cell ∙ ap (λ k. gone ∷ fresh xs n ∷ gones k) long) in
     record {
-      laid = laid_set ls hs at h laid f.lt (found_above ls hs at old (laid_at m at) laid f) (λ ne. absurd (ne p));
-      view = lay_set m ls hs at h gone view f.lt (cell_gone ls h p);
-    }
-
--- a size, and the mark in it
-pub size_half : (n : ℕ) (on : Bool) → (2 * n + bool_byte on) / 2 ≡ n
-size_half n true = omega arith
-size_half n false = omega arith
-
-pub size_mark : (n : ℕ) (on : Bool) → ((2 * n + bool_byte on) % 2 == 1) ≡ on
-size_mark n true = let e : (2 * n + 1) % 2 ≡ 1 = omega arith in rw e refl
-size_mark n false = let e : (2 * n + 0) % 2 ≡ 0 = omega arith in rw e refl
-
--- a part of the literals that a change leaves
-part_same : (xs ys : List Literal) (p n : ℕ) → length xs ≡ length ys → p + n ≤ length xs → ((m : ℕ) → p ≤ m → m < p + n → get_or xs m (plus 0) ≡ get_or ys m (plus 0)) → take n (drop p xs) ≡ take n (drop p ys)
-part_same xs ys p n e h same =
-    ext_get_or (plus 0) (take n (drop p xs)) (take n (drop p ys)) (simp (length-take, length-drop) (ap (λ l. min n (l - p)) e))
-    (λ m lt. let small : m < n = omega (arith, length-take n (drop p xs)) in
-    get_or-take n (drop p xs) m (plus 0) small ∙ get_or-drop p xs m (plus 0) ∙ same (p + m) (omega arith) (omega arith)
-    ∙ sym (get_or-take n (drop p ys) m (plus 0) small ∙ get_or-drop p ys m (plus 0)))
-
--- two literals of a clause change places
-part_swapped : (xs ys : List Literal) (p n i j : ℕ) → ys ≡ swap xs (p + i) (p + j) → p + n ≤ length xs → i < n → j < n → take n (drop p ys) ≡ swap (take n (drop p xs)) i j
-part_swapped xs ys p n i j e h hi hj =
-    let len : length (take n (drop p xs)) ≡ n = omega (arith, length-take n (drop p xs), length-drop p xs) in
-    let size : length ys ≡ length xs = ap length e ∙ length-swap xs (p + i) (p + j) in
-    let len' : length (take n (drop p ys)) ≡ n = omega (arith, length-take n (drop p ys), length-drop p ys) in
-    let at_x : (m : ℕ) → m < n → get_or (take n (drop p xs)) m (plus 0) ≡ get_or xs (p + m) (plus 0) = (λ m lt. get_or-take n (drop p xs) m (plus 0) lt ∙ get_or-drop p xs m (plus 0)) in
-    let at_y : (m : ℕ) → m < n → get_or (take n (drop p ys)) m (plus 0) ≡ get_or ys (p + m) (plus 0) = (λ m lt. get_or-take n (drop p ys) m (plus 0) lt ∙ get_or-drop p ys m (plus 0)) in
-    let big = swapped_from_swap xs ys (p + i) (p + j) (plus 0) (omega arith) (omega arith) e in
-    let small = swapped_from_swap (take n (drop p xs)) (swap (take n (drop p xs)) i j) i j (plus 0) (omega arith) (omega arith) refl in
-    ext_get_or (plus 0) (take n (drop p ys)) (swap (take n (drop p xs)) i j) (len' ∙ sym (length-swap (take n (drop p xs)) i j ∙ len))
-    (λ m lt. let lt' : m < n = omega arith in at_y m lt' ∙ by_eq m i
-    (λ a. rw a (big.0 ∙ sym (at_x j hj) ∙ sym small.0))
-    (λ na. by_eq m j
-    (λ b. rw b (big.1 ∙ sym (at_x i hi) ∙ sym small.1))
-    (λ nb. big.2 (p + m) (λ x. na (omega arith)) (λ x. nb (omega arith)) ∙ sym (at_x m lt') ∙ sym (small.2 m na nb))))
-
--- a place of another clause
-outside : (ls : List Literal) (hs : List Header) (at k m : ℕ) (h : Header) (c : Cell) → IsLaid ls hs → Found ls hs at h c → k ≢ at → (header_at hs k).place ≢ nowhere → (header_at hs k).place ≤ m → m < (header_at hs k).place + len_of (header_at hs k) → (m < h.place) ⊎ (h.place + len_of h ≤ m)
-outside ls hs at k m h c laid f nk pk lo up =
-    let at_is : (header_at hs at).place ≡ h.place = ap (λ (y : Header). y.place) f.is in
-    let at_len : len_of (header_at hs at) ≡ len_of h = ap len_of f.is in
-    let pa : (header_at hs at).place ≢ nowhere = (λ e. f.placed (sym at_is ∙ e)) in
-    by_less k at nk
-    (λ t. inl (omega (arith, laid.apart k at t pk pa)))
-    (λ t. inr (omega (arith, laid.apart at k t pa pk)))
-
-not_in : (m p n i : ℕ) → (m < p) ⊎ (p + n ≤ m) → i < n → m ≡ p + i → ⊥
-not_in m p n i (inl h) lt e = omega arith
-not_in m p n i (inr h) lt e = omega arith
-
--- as many literals under the same headers
-laid_lits : (ls ls' : List Literal) (hs : List Header) → IsLaid ls hs → length ls' ≡ length ls → IsLaid ls' hs
-laid_lits ls ls' hs l n = record {
-  dummy = l.dummy;
-  none = l.none;
-  within = λ i ne. omega (arith, l.within i ne);
-  apart = l.apart;
-  room = omega (arith, l.room);
-}
-
--- two literals of a clause are exchanged
-pub record Swaps (ls' : List Literal) (hs : List Header) (at : ℕ) (m : Laid) (c : Cell) : Type 0 where
-  pub laid : IsLaid ls' hs
-  pub view : laid_of ls' hs ≡ lay m at c
-
-pub swaps : (ls ls' : List Literal) (hs : List Header) (at i j : ℕ) (h : Header) (m : Laid) → IsLaid ls hs → laid_of ls hs ≡ m → Found ls hs at h (laid_at m at) → ls' ≡ swap ls (h.place + i) (h.place + j) → i < length (laid_at m at).lits → j < length (laid_at m at).lits
-    → Swaps ls' hs at m (record (laid_at m at) { lits = swap (laid_at m at).lits i j })
-swaps ls ls' hs at i j h m laid view f e i_in j_in =
-    let hi : i < len_of h = omega (arith, f.length_is) in
-    let hj : j < len_of h = omega (arith, f.length_is) in
-    let size : length ls' ≡ length ls = ap length e ∙ length-swap ls (h.place + i) (h.place + j) in
-    let big = swapped_from_swap ls ls' (h.place + i) (h.place + j) (plus 0) (omega (arith, f.fits)) (omega (arith, f.fits)) e in
-    let here : whole ls' h ≡ record (laid_at m at) { lits = swap (laid_at m at).lits i j } = rw (f.cell, part_swapped ls ls' h.place (len_of h) i j e f.fits hi hj) refl in
-    record {
-      laid = laid_lits ls ls' hs laid size;
-      view = lay_is m ls ls' hs hs at (record (laid_at m at) { lits = swap (laid_at m at).lits i j }) view size refl
-          (cells_put ls ls' hs hs at (record (laid_at m at) { lits = swap (laid_at m at).lits i j }) refl f.lt (ap (cell_of ls') f.is ∙ cell_whole ls' h f.placed ∙ here)
-          (λ k nk. by_eq (header_at hs k).place nowhere
-          (λ g. cell_gone ls' (header_at hs k) g ∙ sym (cell_gone ls (header_at hs k) g))
-          (λ pk. cell_whole ls' (header_at hs k) pk ∙ ap (λ x. held_cell x (header_at hs k).first (header_at hs k).second (mark_of (header_at hs k)))
-          (part_same ls' ls (header_at hs k).place (len_of (header_at hs k)) size (omega (arith, laid.within k pk))
-          (λ n lo up. let out : (n < h.place) ⊎ (h.place + len_of h ≤ n) = outside ls hs at k n h (laid_at m at) laid f nk pk lo up in
-          big.2 n (λ x. not_in n h.place (len_of h) i out hi x) (λ x. not_in n h.place (len_of h) j out hj x)))
-          ∙ sym (cell_whole ls (header_at hs k) pk))));
-    }
-
--- one more clause
-pushed_tells : (hs : List Header) (h : Header) (i : ℕ) → (header_at (hs ++ h ∷ []) i).place ≢ nowhere → ((i < length hs) × (header_at (hs ++ h ∷ []) i ≡ header_at hs i)) ⊎ ((i ≡ length hs) × (header_at (hs ++ h ∷ []) i ≡ h))
-pushed_tells hs h i ne = by_eq i (length hs)
-    (λ e. inr (e, get_or_at hs h [] no_header i (sym e)))
-    (λ n. by_less i (length hs) n
-    (λ lt. inl (lt, get_or_append_left hs (h ∷ []) no_header i lt))
-    (λ gt. absurd (ne (ap (λ (x : Header). x.place) (get_or_past (hs ++ h ∷ []) i no_header (omega (arith, length-append hs (h ∷ []))))))))
-
-laid_push : (ls xs : List Literal) (hs : List Header) (h : Header) → IsLaid ls hs → h.place ≡ length ls → len_of h ≡ length xs → length ls + length xs + 4 * length hs + 4 < 2147483648 → IsLaid (ls ++ xs) (hs ++ h ∷ [])
-laid_push ls xs hs h l p n small = record {
-  dummy = omega (arith, length-append hs (h ∷ []));
-  none = ap (λ (x : Header). x.place) (get_or_append_left hs (h ∷ []) no_header 0 l.dummy) ∙ l.none;
-  within = λ i ne. within_of i ne (pushed_tells hs h i ne);
-  apart = λ i j lt ne nf. apart_of i j lt ne nf (pushed_tells hs h i ne) (pushed_tells hs h j nf);
-  room = omega (arith, length-append ls xs, length-append hs (h ∷ []));
-}
-  where
-    within_of : (i : ℕ) → (header_at (hs ++ h ∷ []) i).place ≢ nowhere → ((i < length hs) × (header_at (hs ++ h ∷ []) i ≡ header_at hs i)) ⊎ ((i ≡ length hs) × (header_at (hs ++ h ∷ []) i ≡ h)) → (header_at (hs ++ h ∷ []) i).place + len_of (header_at (hs ++ h ∷ []) i) ≤ length (ls ++ xs)
-    within_of i ne (inl o) = let q : (header_at hs i).place ≢ nowhere = (λ e. ne (ap (λ (x : Header). x.place) o.1 ∙ e)) in rw o.1 (omega (arith, l.within i q, length-append ls xs))
-    within_of i ne (inr o) = rw o.1 (omega (arith, p, n, length-append ls xs))
-
-    apart_of : (i j : ℕ) → i < j → (header_at (hs ++ h ∷ []) i).place ≢ nowhere → (header_at (hs ++ h ∷ []) j).place ≢ nowhere → ((i < length hs) × (header_at (hs ++ h ∷ []) i ≡ header_at hs i)) ⊎ ((i ≡ length hs) × (header_at (hs ++ h ∷ []) i ≡ h))
-        → ((j < length hs) × (header_at (hs ++ h ∷ []) j ≡ header_at hs j)) ⊎ ((j ≡ length hs) × (header_at (hs ++ h ∷ []) j ≡ h)) → (header_at (hs ++ h ∷ []) i).place + len_of (header_at (hs ++ h ∷ []) i) ≤ (header_at (hs ++ h ∷ []) j).place
-    apart_of i j lt ne nf (inl o) (inl q) =
-        let r : (header_at hs i).place ≢ nowhere = (λ e. ne (ap (λ (x : Header). x.place) o.1 ∙ e)) in
-        let s : (header_at hs j).place ≢ nowhere = (λ e. nf (ap (λ (x : Header). x.place) q.1 ∙ e)) in
-        rw (o.1, q.1) (l.apart i j lt r s)
-    apart_of i j lt ne nf (inl o) (inr q) =
-        let r : (header_at hs i).place ≢ nowhere = (λ e. ne (ap (λ (x : Header). x.place) o.1 ∙ e)) in
-        rw (o.1, q.1) (omega (arith, l.within i r, p))
-    apart_of i j lt ne nf (inr o) (inl q) = absurd (omega (arith, o.0, q.0))
-    apart_of i j lt ne nf (inr o) (inr q) = absurd (omega (arith, o.0, q.0))
-
-cells_more : (ls xs : List Literal) (hs : List Header) → IsLaid ls hs → cells_of (ls ++ xs) hs ≡ cells_of ls hs
-cells_more ls xs hs l = ext_get_or gone (cells_of (ls ++ xs) hs) (cells_of ls hs) (simp length-map refl)
-    (λ k h. cell_is (ls ++ xs) hs k ∙ by_eq (header_at hs k).place nowhere
-    (λ g. cell_gone (ls ++ xs) (header_at hs k) g ∙ sym (cell_gone ls (header_at hs k) g))
-    (λ pk. cell_whole (ls ++ xs) (header_at hs k) pk ∙ ap (λ x. held_cell x (header_at hs k).first (header_at hs k).second (mark_of (header_at hs k))) (part_more k pk) ∙ sym (cell_whole ls (header_at hs k) pk))
-    ∙ sym (cell_is ls hs k))
-  where
-    part_more : (k : ℕ) → (header_at hs k).place ≢ nowhere → part (ls ++ xs) (header_at hs k) ≡ part ls (header_at hs k)
-    part_more k pk =
-        let w = l.within k pk in
-        ap (take (len_of (header_at hs k))) (drop-append-le (header_at hs k).place ls xs (omega arith)) ∙ take-append-le (len_of (header_at hs k)) (drop (header_at hs k).place ls) xs (omega (arith, length-drop (header_at hs k).place ls))
-
-pub record Pushes (ls : List Literal) (hs : List Header) (m : Laid) (c : Cell) : Type 0 where
-  pub laid : IsLaid ls hs
-  pub view : laid_of ls hs ≡ with_cell m c
-
-pub pushes : (ls xs : List Literal) (hs : List Header) (h : Header) (m : Laid) → IsLaid ls hs → laid_of ls hs ≡ m → h.place ≡ length ls → len_of h ≡ length xs → length ls + length xs + 4 * length hs + 4 < 2147483648
-    → Pushes (ls ++ xs) (hs ++ h ∷ []) m (held_cell xs h.first h.second (mark_of h))
-pushes ls xs hs h m l view p n small =
-    let ne : h.place ≢ nowhere = (λ e. absurd (omega (arith, p))) in
-    let mine : part (ls ++ xs) h ≡ xs = rw (p, n) (ap (take (length xs)) (drop_at ls xs (length ls) refl) ∙ take_all (length xs) xs (omega arith)) in
-    let last : cell_of (ls ++ xs) h ≡ held_cell xs h.first h.second (mark_of h) = cell_whole (ls ++ xs) h ne ∙ ap (λ x. held_cell x h.first h.second (mark_of h)) mine in
-    let cells : cells_of (ls ++ xs) (hs ++ h ∷ []) ≡ cells_of ls hs ++ held_cell xs h.first h.second (mark_of h) ∷ [] = map-append (cell_of (ls ++ xs)) hs (h ∷ []) ∙ rw (cells_more ls xs hs l, last) refl in
-    let used : length (ls ++ xs) + 4 * (length (hs ++ h ∷ []) - 1) ≡ length ls + 4 * (length hs - 1) + (length xs + 4) = omega (arith, l.dummy, length-append ls xs, length-append hs (h ∷ [])) in
-    record {
-      laid = laid_push ls xs hs h l p n small;
-      view = subst (λ x. laid_of (ls ++ xs) (hs ++ h ∷ []) ≡ with_cell x (held_cell xs h.first h.second (mark_of h))) view (rw (cells, used) refl);
+      laid = record {
+        walk = walk_append 0 ls (block a c body) l.walk (block_walk a c body sized);
+        within = omega (arith, length-append ls (block a c body), l.within, long);
+        room = omega arith;
+      };
+      view = subst (λ x. laid_of (ls ++ block a c body) (used + (length xs + 4)) free' ≡ with_cell x (fresh xs n) free') view (rw cells refl);
     }

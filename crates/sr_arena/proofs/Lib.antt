@@ -1,5 +1,5 @@
-pub mod Weighing
+pub mod Clauses
 pub mod Laying
-pub mod Compacting
 pub mod Moving
 pub mod Standing
+pub mod Weighing

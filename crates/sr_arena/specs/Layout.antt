@@ -1,53 +1,65 @@
--- How cells lie in two regions: the literals, and a header for each reference.
-use Rattle.std.specs.Prelude.{ℕ, ◌+◌, ◌*◌, ◌-◌, ◌/◌, ◌%◌, ◌<◌, ◌≤◌, ◌≡◌, ◌≢◌, ◌==◌, Bool, cond, List, [], ◌∷◌, length, map, take, drop, slice_index_or, slice_set, ◌++◌}
-use Rattle.sr_base.specs.Literal.{Literal}
-use Rattle.sr_arena.specs.declared.headers.Header.{Header}
-use Rattle.sr_arena.specs.Compaction.{name_in}
+-- How clauses lie in one region of words: before a clause's literals stand two words, its number, and its size with three
+-- bits below it.
+use Rattle.std.specs.Prelude.{ℕ, zero, suc, ◌+◌, ◌-◌, ◌/◌, ◌%◌, ◌<◌, ◌≤◌, ◌==◌, Bool, cond, List, [], ◌∷◌, ◌++◌, length, take, map, slice_index_or, slice_set, Vec, vec_len, vec_capacity}
+use Rattle.std.specs.declared.alloc.Global.{Global}
+use Rattle.sr_base.specs.Words.{literal_in, IsLiteral}
+use Rattle.sr_base.specs.declared.words.Word.{Word}
 use Rattle.sr_arena.specs.Cells.{Cell, gone, held_cell, weight}
 
--- the place that no clause can have
-abbrev pub nowhere : ℕ
-nowhere = 4294967295
+-- the second word: how many literals follow, and three bits
+abbrev pub size_of : Word → ℕ
+size_of w = w.code / 8
 
--- how many literals a header's clause has, and its mark
-abbrev pub len_of : Header → ℕ
-len_of h = h.size / 2
+abbrev pub is_marked : Word → Bool
+is_marked w = w.code % 2 == 1
 
-abbrev pub mark_of : Header → Bool
-mark_of h = h.size % 2 == 1
+abbrev pub is_flagged : Word → Bool
+is_flagged w = w.code / 2 % 2 == 1
 
--- the cell of a header
-abbrev pub cell_of : List Literal → Header → Cell
-cell_of ls h = cond (h.place == nowhere) gone (held_cell (take (len_of h) (drop h.place ls)) h.first h.second (mark_of h))
+abbrev pub is_freed : Word → Bool
+is_freed w = w.code / 4 % 2 == 1
 
-abbrev pub cells_of : List Literal → List Header → List Cell
-cells_of ls hs = map (cell_of ls) hs
+-- the cell of a clause
+abbrev pub clause : Word → Word → List Word → Cell
+clause number size ws = cond (is_freed size) gone (held_cell (map literal_in ws) number.code (is_marked size) (is_flagged size))
 
-abbrev pub no_header : Header
-no_header = record { place = nowhere; size = 0; first = 0; second = 0 }
+-- the cells of the references after each word, where so many words are still a clause's literals
+abbrev pub cells_from : ℕ → List Word → List Cell
+cells_from left [] = []
+cells_from (suc left) (w ∷ ws) = gone ∷ cells_from left ws
+cells_from zero (number ∷ []) = gone ∷ []
+cells_from zero (number ∷ size ∷ ws) = gone ∷ clause number size (take (size_of size) ws) ∷ cells_from (size_of size) ws
 
-abbrev pub header_at : List Header → ℕ → Header
-header_at hs i = slice_index_or hs i no_header
+-- the region is walked by its sizes, ends where a clause ends, and has literals where it should
+abbrev pub IsWalk : ℕ → List Word → Type 0
+IsWalk zero [] = Unit {0}
+IsWalk (suc left) [] = ⊥
+IsWalk (suc left) (w ∷ ws) = IsLiteral w × IsWalk left ws
+IsWalk zero (number ∷ []) = ⊥
+IsWalk zero (number ∷ size ∷ ws) = IsWalk (size_of size) ws
 
--- a header of a clause that moved, with its links under new names
-abbrev pub moved_header : List ℕ → ℕ → Header → Header
-moved_header names place h = record h { place = place; first = name_in names h.first; second = name_in names h.second }
-
--- what the two regions hold: cells by reference, and how many cells of 32 bits they take
+-- what the region holds: cells by reference, the cells of 32 bits that are counted for it, and the words for which there is
+-- room
 pub record Laid : Type 0 where
   pub cells : List Cell
   pub used : ℕ
+  pub room : ℕ
 
-abbrev pub laid_of : List Literal → List Header → Laid
-laid_of ls hs = record { cells = cells_of ls hs; used = length ls + 4 * (length hs - 1) }
+-- a reference is the place of a clause's first literal, so 0 is none
+abbrev pub cells_of : List Word → List Cell
+cells_of ls = gone ∷ cells_from 0 ls
 
--- each clause lies in the region of literals, behind those with lower references; 0 names none; all places fit
-pub record IsLaid (ls : List Literal) (hs : List Header) : Type 0 where
-  pub dummy : 0 < length hs
-  pub none : (header_at hs 0).place ≡ nowhere
-  pub within : (i : ℕ) → (header_at hs i).place ≢ nowhere → (header_at hs i).place + len_of (header_at hs i) ≤ length ls
-  pub apart : (i j : ℕ) → i < j → (header_at hs i).place ≢ nowhere → (header_at hs j).place ≢ nowhere → (header_at hs i).place + len_of (header_at hs i) ≤ (header_at hs j).place
-  pub room : length ls + 4 * length hs < 2147483648
+-- the words for which a list has room
+abbrev pub room_of : Vec Word Global → ℕ
+room_of ws = vec_capacity ws - vec_len ws
+
+abbrev pub laid_of : List Word → ℕ → ℕ → Laid
+laid_of ls used room = record { cells = cells_of ls; used = used; room = room }
+
+pub record IsLaid (ls : List Word) (used : ℕ) : Type 0 where
+  pub walk : IsWalk 0 ls
+  pub within : length ls ≤ used
+  pub room : used < 4294967296
 
 abbrev pub laid_at : Laid → ℕ → Cell
 laid_at m at = slice_index_or m.cells at gone
@@ -56,6 +68,10 @@ laid_at m at = slice_index_or m.cells at gone
 abbrev pub lay : Laid → ℕ → Cell → Laid
 lay m at c = record m { cells = slice_set m.cells at c }
 
--- one more cell under the next reference
-abbrev pub with_cell : Laid → Cell → Laid
-with_cell m c = record { cells = m.cells ++ c ∷ []; used = m.used + weight c }
+abbrev pub gones : ℕ → List Cell
+gones zero = []
+gones (suc n) = gone ∷ gones n
+
+-- one more cell after a word, and before its literals
+abbrev pub with_cell : Laid → Cell → ℕ → Laid
+with_cell m c room = record { cells = m.cells ++ (gone ∷ c ∷ gones (length c.lits)); used = m.used + weight c; room = room }

@@ -1,12 +1,10 @@
 //! Clauses in one memory, under references that stay until the memory is compacted.
 //!
-//! The literals of all clauses lie in one region and a header for each clause in another, so a clause of n literals takes
-//! n + 4 cells of 32 bits, and no clause has a block of its own. Contracts see a list of cells by reference: literals, two
-//! links and a mark.
+//! All clauses lie in one region of words of 32 bits, each after two words of its own, and no clause has a block of its
+//! own. Contracts see a list of cells by reference: literals, a number of the caller's, a mark and a flag.
 #![tactic(auto)]
 
 mod counting;
-mod headers;
 mod memory;
 mod moves;
 mod naming;
@@ -15,9 +13,10 @@ mod regions;
 mod sliding;
 #[cfg(test)]
 mod tests;
+mod walking;
 
 pub use counting::Steps;
-pub use memory::ClauseMem;
+pub use memory::{ClauseMem, MOST_USED};
 pub use moves::CrefMap;
-pub use references::{Cref, CrefList, Side};
-pub use sr_base::AddStop;
+pub use references::{Cref, CrefList};
+pub use sr_base::AddError;

@@ -1,19 +1,21 @@
 // The memory of clauses, with its counts and its limit.
-ghost use Rattle.std.specs.Prelude.{◌≡◌, ◌+◌, ◌<◌, ◌≤◌, ◌++◌, [], ◌∷◌, length, IfOk, IfErr, OnErr, OnOk, ◌↔◌};
+ghost use Rattle.std.specs.Prelude.{◌≡◌, ◌+◌, ◌<◌, ◌≤◌, [], ◌∷◌, length, IfOk, IfSome, OnErr, OnOk, ◌↔◌};
 ghost use Rattle.std.specs.List.{swap};
-ghost use Rattle.sr_arena.specs.Cells.{gone, cell_at, IsHeld, put, with_clause, held_cells};
-ghost use Rattle.sr_arena.specs.Links.{link_index, link_of, with_link};
-ghost use Rattle.sr_arena.specs.Compaction.{IsCompacted};
+ghost use Rattle.sr_arena.specs.Cells.{gone, fresh, cell_at, IsHeld, IsHeldOrNone, IsAdded, put, held_cells, reference, held_after};
+ghost use Rattle.sr_arena.specs.Compaction.{IsCompacted, IsPacked};
 
 use crate::counting::Steps;
 use crate::moves::CrefMap;
-use crate::naming::names_of;
-use crate::references::{Cref, Side};
+use crate::references::Cref;
 use crate::regions::Regions;
-use sr_base::{AddStop, Limits, Lit, NoMemory};
+use sr_base::{AddError, Limits, Lit, MOST_CELLS, NoMemory};
 use std::alloc::Global;
 use std::marker::Model;
 use std::sync::ledger::Ledger;
+
+/// The most cells that may be in use where a clause is added. It is above twice the most that can be held and 1,024 more, so
+/// who compacts beyond that never comes to it.
+pub const MOST_USED: u32 = 2_147_483_648;
 
 /// Clauses in one memory, under references.
 ///
@@ -30,52 +32,60 @@ pub struct ClauseMem {
 impl Model for ClauseMem {
     ghost use Rattle.std.specs.Prelude.{◌≡◌, ◌≤◌};
     ghost use Rattle.sr_arena.specs.Cells.{Memory, weights};
+    ghost use Rattle.sr_base.specs.declared.limits.TheConstants.{MOST_CELLS};
 
     ghost Value = { Memory };
 
-    ghost view = { λ m. record { cells = m.regions.cells; used = m.regions.used; most = m.most } };
+    ghost view = { λ m. record { cells = m.regions.cells; used = m.regions.used; most = m.most; room = m.regions.room } };
 
-    ghost invariant = { λ m. (m.held ≡ weights m.regions.cells) × (m.held ≤ m.most) × (m.most ≤ 268435456) };
+    ghost invariant = { λ m. (m.held ≡ weights m.regions.cells) × (m.held ≤ m.most) × (m.most ≤ MOST_CELLS) };
 }
 
 impl ClauseMem {
-    /// A memory with no clause, in which as many cells may be held as the limits say.
-    pub fn new(alloc: Global, limits: &Limits) -> Result<ClauseMem, NoMemory>
-        ensures { IfOk result (λ m. m ≡ record { cells = gone ∷ []; used = 0; most = limits.now.cells }) }
+    /// A memory with no clause, in which as many cells may be held as the limits say. It takes no memory.
+    pub fn new(alloc: Global, limits: &Limits) -> ClauseMem
+        ensures { result ≡ record { cells = gone ∷ []; used = 0; most = limits.now.cells; room = 0 } }
     {
-        let regions = Regions::new(alloc)?;
-        Ok(ClauseMem {
+        ClauseMem {
             alloc,
-            regions,
+            regions: Regions::new(alloc),
             held: 0,
             most: limits.cells(),
-        })
+        }
     }
 
-    /// Adds a clause, with no links and no mark.
+    /// Makes room for the words of a clause of so many literals, so that adding it takes no memory.
+    pub fn reserve(&mut self, len: usize) -> Result<(), NoMemory>
+        requires { len ≤ MOST_CELLS }
+        ensures same { self.new ≡ record self.old { room = self.new.room } }
+        ensures ok { OnOk result (len + 2 ≤ self.new.room) }
+        ensures memory { OnErr result (self.old.room < len + 2) }
+        ensures err { OnErr result (self.new ≡ self.old) }
+    {
+        self.regions.reserve(len)
+    }
+
+    /// Adds a clause with a number of the caller's, and with no mark and no flag.
     ///
-    /// Fewer than 2^31 cells can be used at once: where the clauses that were freed leave no room for another, that is want
-    /// of memory too, and a compaction helps.
-    pub fn add(&mut self, lits: &[Lit]) -> Result<Cref, AddStop>
-        ensures at { IfOk result (λ at. at ≡ length self.old.cells) }
-        ensures ok { OnOk result (self.new ≡ with_clause self.old lits.now) }
+    /// Memory may lack only where there was no room for the clause's words.
+    pub fn add(&mut self, lits: &[Lit], number: u32) -> Result<Cref, AddError>
+        requires { self.old.used ≤ MOST_USED }
+        ensures ok { IfOk result (λ at. IsAdded self.old self.new at (fresh lits.now number)) }
         ensures held { OnOk result (held_cells self.new ≡ held_cells self.old + (length lits.now + 4)) }
         ensures fits { OnOk result (held_cells self.new ≤ self.old.most) }
-        ensures cells { IfErr result (λ e. e ≡ AddStop.Cells ↔ (self.old.most < held_cells self.old + (length lits.now + 4))) }
+        ensures cells { result ≡ Err AddError.Cells ↔ (self.old.most < held_cells self.old + (length lits.now + 4)) }
+        ensures memory { result ≡ Err AddError.NoMemory → self.old.room < length lits.now + 2 }
         ensures err { OnErr result (self.new ≡ self.old) }
     {
         let free = (self.most - self.held) as usize;
         if free < 4 || lits.len() > free - 4 {
-            return Err(AddStop::Cells);
+            return Err(AddError::Cells);
         }
-        let Some(at) = Cref::from_index(self.regions.count() as u32) else {
-            return Err(AddStop::NoMemory);
-        };
-        let Ok(()) = self.regions.push(lits) else {
-            return Err(AddStop::NoMemory);
+        let Ok(at) = self.regions.push(lits, number) else {
+            return Err(AddError::NoMemory);
         };
         self.held += lits.len() as u32 + 4;
-        Ok(at)
+        Ok(Cref::at(at))
     }
 
     /// The literals of a clause in order. It takes one step.
@@ -86,25 +96,7 @@ impl ClauseMem {
         ensures tick { steps.new ≡ steps.old + 1 }
     {
         steps.tick();
-        self.peek(at)
-    }
-
-    /// The literals of a clause in order, uncounted.
-    #[inline]
-    pub fn peek(&self, at: Cref) -> &[Lit]
-        requires { IsHeld self.now at }
-        ensures { result.now ≡ (cell_at self.now at).lits }
-    {
         self.regions.lits(at.index() as usize)
-    }
-
-    /// Whether a reference names a held clause.
-    #[cfg(test)]
-    pub(crate) fn is_held(&self, at: Cref) -> bool
-        ensures { result ≡ (cell_at self.now at).held }
-    {
-        let at = at.index() as usize;
-        at < self.regions.count() && self.regions.is_held(at)
     }
 
     /// Exchanges two literals of a clause.
@@ -119,24 +111,23 @@ impl ClauseMem {
         self.regions.swap(at.index() as usize, i, j);
     }
 
-    /// A link of a clause.
+    /// The number of a clause.
     #[inline]
-    pub fn link(&self, at: Cref, side: Side) -> Option<Cref>
+    pub fn number(&self, at: Cref) -> u32
         requires { IsHeld self.now at }
-        ensures { link_index result ≡ link_of side (cell_at self.now at) }
+        ensures { result ≡ (cell_at self.now at).number }
     {
-        Cref::from_index(self.regions.link(at.index() as usize, side))
+        self.regions.number(at.index() as usize)
     }
 
-    /// Sets a link of a clause.
+    /// Gives a clause another number. What a number means is the caller's affair.
     #[inline]
-    pub fn set_link(&mut self, at: Cref, side: Side, to: Option<Cref>)
+    pub fn set_number(&mut self, at: Cref, number: u32)
         requires { IsHeld self.old at }
-        ensures value { self.new ≡ put self.old at (with_link side (link_index to) (cell_at self.old at)) }
+        ensures value { let c = cell_at self.old at in self.new ≡ put self.old at (record c { number = number }) }
         ensures held { held_cells self.new ≡ held_cells self.old }
     {
-        let to = Cref::index_of(to);
-        self.regions.set_link(at.index() as usize, side, to);
+        self.regions.set_number(at.index() as usize, number);
     }
 
     /// Whether a clause is marked.
@@ -155,7 +146,30 @@ impl ClauseMem {
         ensures value { let c = cell_at self.old at in self.new ≡ put self.old at (record c { marked = on }) }
         ensures held { held_cells self.new ≡ held_cells self.old }
     {
-        self.regions.set_mark(at.index() as usize, on);
+        let index = at.index() as usize;
+        let flagged = self.regions.flag(index);
+        self.regions.set_bits(index, on, flagged);
+    }
+
+    /// Whether a clause is flagged.
+    #[inline]
+    pub fn flag(&self, at: Cref) -> bool
+        requires { IsHeld self.now at }
+        ensures { result ≡ (cell_at self.now at).flagged }
+    {
+        self.regions.flag(at.index() as usize)
+    }
+
+    /// Flags a clause or takes its flag away. What a flag means is the caller's affair.
+    #[inline]
+    pub fn set_flag(&mut self, at: Cref, on: bool)
+        requires { IsHeld self.old at }
+        ensures value { let c = cell_at self.old at in self.new ≡ put self.old at (record c { flagged = on }) }
+        ensures held { held_cells self.new ≡ held_cells self.old }
+    {
+        let index = at.index() as usize;
+        let marked = self.regions.mark(index);
+        self.regions.set_bits(index, marked, on);
     }
 
     /// Lets a clause go. Its cells stay used until the memory is compacted.
@@ -166,6 +180,18 @@ impl ClauseMem {
     {
         let len = self.regions.free(at.index() as usize);
         self.held -= len + 4;
+    }
+
+    /// The first held clause after another one, or the first of all. The time is linear in the clauses that were freed
+    /// between them since the last compaction.
+    pub fn next(&self, after: Option<Cref>) -> Option<Cref>
+        requires { IsHeldOrNone self.now after }
+        ensures value { reference result ≡ held_after self.now (reference after) }
+        ensures held { IsHeldOrNone self.now result }
+        ensures rises { IfSome result (λ at. reference after < at) }
+    {
+        let next = self.regions.next(Cref::index_of(after) as usize);
+        Cref::from_index(next as u32)
     }
 
     /// The cells of held clauses: for each its literals and four more.
@@ -185,18 +211,28 @@ impl ClauseMem {
         self.regions.used()
     }
 
-    /// Moves the held clauses close together, under new references that `moved` names afterwards.
+    /// Moves the held clauses close together, under new references that `moved` leads to afterwards.
     ///
-    /// The time is linear in the references that were given and in the literals of held clauses. Want of memory changes
-    /// nothing.
+    /// The time is linear in the used cells. Memory is taken for the map alone, two numbers for each held clause. Where it
+    /// lacks nothing changes.
     pub fn compact(&mut self, moved: &mut CrefMap) -> Result<(), NoMemory>
         ensures ok { OnOk result (IsCompacted self.old self.new moved.new) }
         ensures err { OnErr result (self.new ≡ self.old) }
         ensures map { OnErr result (moved.new ≡ moved.old) }
     {
-        let names = names_of(self.alloc, &self.regions)?;
-        self.regions.slide(names.as_slice());
-        moved.set(names);
+        let moves = self.regions.moves(self.alloc)?;
+        self.regions.slide(self.held);
+        moved.set(moves);
         Ok(())
+    }
+
+    /// Moves the held clauses close together, for a caller that knows them by their numbers and finds their new references
+    /// by [`ClauseMem::next`].
+    ///
+    /// The time is linear in the used cells. It takes no memory.
+    pub fn pack(&mut self)
+        ensures { IsPacked self.old self.new }
+    {
+        self.regions.slide(self.held);
     }
 }

@@ -1,34 +1,34 @@
-// The new names that a compaction gives.
-ghost use Rattle.std.specs.Prelude.{◌≡◌, cond, IfOk};
-ghost use Rattle.sr_arena.specs.Naming.{names_from};
+// The new references that a compaction gives.
+ghost use Rattle.std.specs.Prelude.{◌≡◌, ◌<◌, length, IfOk};
+ghost use Rattle.sr_arena.specs.Compaction.{moves_of};
+ghost use Rattle.sr_arena.specs.Layout.{IsWalk, cells_of};
 
-use crate::regions::Regions;
-use sr_base::NoMemory;
+use crate::moves::Move;
+use sr_base::{NoMemory, Word};
 use std::alloc::Global;
 
-/// The new name of each reference: held clauses are named from 1 on in order, and the others 0.
-pub fn names_of(alloc: Global, regions: &Regions) -> Result<Vec<u32>, NoMemory>
-    ensures { IfOk result (λ names. names.items ≡ names_from 1 regions.now.cells) }
+/// Where each held clause goes: behind those before it.
+pub fn moves_of(alloc: Global, words: &[Word]) -> Result<Vec<Move>, NoMemory>
+    requires walk { IsWalk 0 words.now }
+    requires room { length words.now < 4294967296 }
+    ensures { IfOk result (λ moves. moves.items ≡ moves_of (cells_of words.now)) }
 {
-    let count = regions.count();
-    let Ok(mut names) = Vec::with_capacity(alloc, count) else {
-        return Err(NoMemory);
-    };
-    let mut next: u32 = 1;
-    for at in 0..count {
-        let is_held = regions.is_held(at);
-        if names.push(name_if(is_held, next)).is_err() {
-            return Err(NoMemory);
+    let mut moves = Vec::new(alloc);
+    let mut read = 0;
+    let mut place = 0;
+    while read < words.len() {
+        let size = words[read + 1].code;
+        let len = (size / 8) as usize + 2;
+        let is_freed = size / 4 % 2 == 1;
+        if !is_freed {
+            let from = read as u32 + 2;
+            let to = place as u32 + 2;
+            if moves.push(Move { from, to }).is_err() {
+                return Err(NoMemory);
+            }
+            place += len;
         }
-        next += is_held as u32;
+        read += len;
     }
-    Ok(names)
-}
-
-/// The next name for a clause that is held, and 0 for others.
-#[inline]
-fn name_if(is_held: bool, next: u32) -> u32
-    ensures { result ≡ cond is_held next 0 }
-{
-    if is_held { next } else { 0 }
+    Ok(moves)
 }

@@ -1,69 +1,43 @@
-// Compaction in place: the held clauses slide down in order, each behind those before it, so a clause is read before another
-// is written over it.
-ghost use Rattle.std.specs.Prelude.{◌≡◌, ◌+◌, ◌*◌, ◌-◌, ◌/◌, ◌<◌, ◌≤◌, ◌∷◌, length, slice_set};
+// Compaction in place: the region is walked in order, and each held clause slides down to those before it, with its words,
+// so a clause is read before another is written over it.
+ghost use Rattle.std.specs.Prelude.{◌≡◌, ◌+◌, ◌-◌, ◌<◌, ◌≤◌, length, vec_len, vec_capacity};
 ghost use Rattle.std.specs.List.{copy_within};
-ghost use Rattle.sr_arena.specs.Cells.{gone, weights};
-ghost use Rattle.sr_arena.specs.Compaction.{name_in};
-ghost use Rattle.sr_arena.specs.Naming.{packed};
-ghost use Rattle.sr_arena.specs.Layout.{IsLaid, cells_of, moved_header};
+ghost use Rattle.sr_arena.specs.Cells.{weights};
+ghost use Rattle.sr_arena.specs.Compaction.{IsMoved, moves_of};
+ghost use Rattle.sr_arena.specs.Layout.{IsWalk, cells_of};
 
-use crate::headers::{Header, NOWHERE};
-use sr_base::Lit;
+use sr_base::Word;
 
-/// Slides the held clauses together, with their links under new names.
-pub fn slide(lits: &mut Vec<Lit>, headers: &mut Vec<Header>, names: &[u32])
-    requires { IsLaid lits.old.items headers.old.items }
-    ensures laid { IsLaid lits.new.items headers.new.items }
-    ensures cells { cells_of lits.new.items headers.new.items ≡ gone ∷ packed names.now (cells_of lits.old.items headers.old.items) }
-    ensures used { length lits.new.items + 4 * (length headers.new.items - 1) ≡ weights (cells_of lits.new.items headers.new.items) }
+/// Slides the held clauses together.
+pub fn slide(words: &mut Vec<Word>)
+    requires walk { IsWalk 0 words.old.items }
+    requires room { length words.old.items < 4294967296 }
+    ensures walk { IsWalk 0 words.new.items }
+    ensures moved { IsMoved (cells_of words.old.items) (cells_of words.new.items) (moves_of (cells_of words.old.items)) }
+    ensures fits { length words.new.items ≤ weights (cells_of words.new.items) }
 {
-    let mut next = 1;
+    let mut read = 0;
     let mut place = 0;
-    for at in 1..headers.len() {
-        let header = headers[at];
-        if header.place != NOWHERE {
-            move_down(lits, headers, names, header, next, place);
-            next += 1;
-            place += (header.size / 2) as usize;
+    while read < words.len() {
+        let size = words[read + 1].code;
+        let len = (size / 8) as usize + 2;
+        let is_freed = size / 4 % 2 == 1;
+        if !is_freed {
+            move_down(words, read, len, place);
+            place += len;
         }
+        read += len;
     }
-    headers.truncate(next);
-    lits.truncate(place);
+    words.truncate(place);
 }
 
-/// Moves a clause's literals down to a place, and puts its header under another name.
+/// Moves a clause down with its words.
 #[inline]
-fn move_down(
-    lits: &mut Vec<Lit>,
-    headers: &mut Vec<Header>,
-    names: &[u32],
-    header: Header,
-    to: usize,
-    place: usize,
-)
-    requires within { header.place + header.size / 2 ≤ length lits.old.items }
-    requires down { place ≤ header.place }
-    requires there { to < length headers.old.items }
-    ensures lits { lits.new.items ≡ copy_within lits.old.items header.place (header.place + header.size / 2) place }
-    ensures headers { headers.new.items ≡ slice_set headers.old.items to (moved_header names.now place header) }
+fn move_down(words: &mut Vec<Word>, read: usize, len: usize, place: usize)
+    requires within { read + len ≤ length words.old.items }
+    requires down { place ≤ read }
+    requires room { length words.old.items < 4294967296 }
+    ensures { words.new.items ≡ copy_within words.old.items read (read + len) place }
 {
-    let from = header.place as usize;
-    lits.copy_within(from..from + (header.size / 2) as usize, place);
-    headers[to] = Header {
-        place: place as u32,
-        size: header.size,
-        first: rename(names, header.first),
-        second: rename(names, header.second),
-    };
-}
-
-/// The new name of a link; none for none.
-#[inline]
-fn rename(names: &[u32], link: u32) -> u32
-    ensures { result ≡ name_in names.now link }
-{
-    if link as usize >= names.len() {
-        return 0;
-    }
-    names[link as usize]
+    words.copy_within(read..read + len, place);
 }

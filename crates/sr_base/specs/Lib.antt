@@ -1,3 +1,5 @@
 pub mod Literal
 pub mod LiteralCode
 pub mod Limits
+pub mod Contents
+pub mod Words

@@ -6,9 +6,11 @@ mod limits;
 mod lists;
 mod literal;
 mod names;
+mod words;
 
 pub use clauses::{Clause, is_short_clause};
-pub use limits::Limits;
-pub use lists::{ByteList, IdList, Items, LitList, NoMemory};
-pub use literal::{Lit, MOST_VARS, holds};
-pub use names::{AddStop, Cause, Form, LimitKind, TextKind, Which};
+pub use limits::{Limits, MOST_BYTES, MOST_CELLS, MOST_IDS};
+pub use lists::{ByteList, ClauseId, IdList, Items, LitList, NoMemory};
+pub use literal::{Lit, MOST_VARS, has};
+pub use names::{AddError, Cause, Form, InputError, LimitKind, TextKind, Which};
+pub use words::{Word, as_lits, as_words};

@@ -11,9 +11,9 @@ use Rattle.sr_check.specs.declared.meeting.Scratch.{Scratch}
 use Rattle.sr_check.specs.Trail.{Covers, CoversAll, CoversClauses}
 use Rattle.sr_check.specs.Ready.{IsReady}
 use Rattle.sr_check.specs.Checking.{AreBelow, KeepsChecking}
-use Rattle.sr_check.specs.Occurring.{under, AreUnder, KeepsListed}
+use Rattle.sr_occurs.specs.Occurring.{under, AreUnder, KeepsListed}
 use Rattle.sr_check.specs.Candidates.{RiseFrom}
-use Rattle.sr_check.proofs.Marking.{by_test}
+use Rattle.sr_table.proofs.Paging.{by_test}
 use Rattle.sr_check.proofs.Following.{covered_more, clauses_more}
 
 -- one more literal is covered
@@ -104,31 +104,31 @@ keeps_without most live last scratch ids k = record {
   below = below_without (last + 1) ids live k.below;
   rising = rising_without 0 ids live k.rising;
   lists = λ b. under_without (under scratch.lists) ids live (k.lists b);
-  room = covered_without scratch.marks.room ids live k.room;
+  room = covered_without scratch.trail.room ids live k.room;
   cells = omega (arith, k.cells, cells_without ids live);
   limit = k.limit;
 }
 
 -- a clause under a new number
-pub keeps_push : (most : ℕ) (live : Numbered) (last id : ℕ) (lits : List Literal) (old new : Scratch) → KeepsChecking most live last old → last < id → IsReady new → old.marks.room ≤ new.marks.room → CoversAll new.marks.room lits
+pub keeps_push : (most : ℕ) (live : Numbered) (last id : ℕ) (lits : List Literal) (old new : Scratch) → KeepsChecking most live last old → last < id → IsReady new → old.trail.room ≤ new.trail.room → CoversAll new.trail.room lits
     → KeepsListed new.lists (live ++ (id, lits) ∷ []) → cells_of (clauses live) + clause_cells lits ≤ most → KeepsChecking most (live ++ (id, lits) ∷ []) id new
 keeps_push most live last id lits old new k lt ready room covered lists fits = record {
   ready = ready;
   below = below_push live id (id + 1) lits (below_more live (last + 1) (id + 1) (omega arith) k.below) (omega arith);
   rising = rising_push 0 live id (last + 1) lits k.rising k.below (omega arith) (omega arith);
   lists = lists;
-  room = rw (clauses-push live id lits) (clauses_push new.marks.room (clauses live) lits (clauses_more old.marks.room new.marks.room (clauses live) room k.room) covered);
+  room = rw (clauses-push live id lits) (clauses_push new.trail.room (clauses live) lits (clauses_more old.trail.room new.trail.room (clauses live) room k.room) covered);
   cells = omega (arith, fits, cells_push live id lits);
   limit = k.limit;
 }
 
-pub keeps_room : (most : ℕ) (live : Numbered) (last : ℕ) (old new : Scratch) → KeepsChecking most live last old → IsReady new → old.marks.room ≤ new.marks.room → KeepsListed new.lists live → KeepsChecking most live last new
+pub keeps_room : (most : ℕ) (live : Numbered) (last : ℕ) (old new : Scratch) → KeepsChecking most live last old → IsReady new → old.trail.room ≤ new.trail.room → KeepsListed new.lists live → KeepsChecking most live last new
 keeps_room most live last old new k ready room lists = record {
   ready = ready;
   below = k.below;
   rising = k.rising;
   lists = lists;
-  room = clauses_more old.marks.room new.marks.room (clauses live) room k.room;
+  room = clauses_more old.trail.room new.trail.room (clauses live) room k.room;
   cells = k.cells;
   limit = k.limit;
 }
@@ -180,7 +180,7 @@ added_more f i c live live' room room' h e a put le covered =
     }
 
 -- a new checker
-pub keeps_new : (most : ℕ) (f : List (List Literal)) (live : Numbered) (count : ℕ) (scratch : Scratch) → live ≡ numbered_from 1 f → count ≡ length f → IsReady scratch → scratch.lists.built ≡ false → CoversClauses scratch.marks.room (clauses live) → cells_of f ≤ most → most ≤ 268435456
+pub keeps_new : (most : ℕ) (f : List (List Literal)) (live : Numbered) (count : ℕ) (scratch : Scratch) → live ≡ numbered_from 1 f → count ≡ length f → IsReady scratch → scratch.lists.built ≡ false → CoversClauses scratch.trail.room (clauses live) → cells_of f ≤ most → most ≤ 268435456
     → KeepsChecking most live count scratch
 keeps_new most f live count scratch is n ready bare covered fits limit = record {
   ready = ready;

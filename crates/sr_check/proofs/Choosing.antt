@@ -9,8 +9,9 @@ use Rattle.sr_model.specs.Assignment.{holds_number}
 use Rattle.sr_model.specs.Substitution.{Substitution, Reduction, untouched, satisfied, left, reduction}
 use Rattle.sr_model.specs.Chain.{Numbered, clause_of}
 use Rattle.sr_model.specs.Meeting.{Group, Meeting, met, unmet, both, left_meets, all_left_meet}
-use Rattle.sr_check.specs.Candidates.{RiseFrom, AreRising, is_left, HoldsLeft, number_meets, list_meets}
-use Rattle.sr_check.proofs.Marking.{by_test}
+use Rattle.sr_occurs.specs.Candidates.{is_left, HoldsLeft}
+use Rattle.sr_check.specs.Candidates.{RiseFrom, AreRising, number_meets, list_meets}
+use Rattle.sr_table.proofs.Paging.{by_test}
 
 -- the numbers of a list are met
 abbrev pub AreMet : Bool → Numbered → List Literal → Substitution → List Group → List ℕ → Type 0

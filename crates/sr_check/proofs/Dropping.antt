@@ -1,14 +1,10 @@
 -- Lemmas on dropping numbers.
-use Rattle.std.proofs.Common.{◌≡◌, ◌<◌, ◌+◌, ℕ, ◌||◌, ◌==◌, List, [], ◌∷◌, ◌++◌, refl, sym, ◌∙◌, ap, arith, length, get_or, take}
+use Rattle.std.proofs.Common.{◌≡◌, ◌<◌, ◌+◌, ℕ, List, [], ◌∷◌, ◌++◌, refl, sym, ◌∙◌, ap, arith, length, get_or, take}
 use Rattle.std.proofs.lemmas.List.{take_more}
 use Rattle.std.proofs.lemmas.Bool.Decides.{nat_tests}
-use Rattle.sr_model.specs.Assignment.{holds_number}
+use Rattle.sr_table.proofs.Numbering.{holds_push}
 use Rattle.sr_model.specs.Chain.{Numbered}
 use Rattle.sr_model.specs.Judging.{without}
-
-pub holds_push : (v n : ℕ) (ids : List ℕ) → holds_number v (ids ++ n ∷ []) ≡ (holds_number v ids || (n == v))
-holds_push v n [] = grind arith
-holds_push v n (w ∷ ids) = grind (arith, holds_push v n ids)
 
 pub without_push : (ids : List ℕ) (n : ℕ) (live : Numbered) → without (ids ++ n ∷ []) live ≡ without (n ∷ []) (without ids live)
 without_push ids n [] = refl

@@ -9,9 +9,10 @@ use Rattle.sr_model.specs.Assignment.{holds_number}
 use Rattle.sr_model.specs.Substitution.{Substitution, reduction}
 use Rattle.sr_model.specs.Chain.{Numbered, clause_of}
 use Rattle.sr_model.specs.Meeting.{Group, Meeting, unmet, needs_hints, groups_fit}
-use Rattle.sr_check.specs.Indexing.{IsLive, numbers, place_from}
-use Rattle.sr_check.proofs.Marking.{by_test}
-use Rattle.sr_check.proofs.Dropping.{holds_push}
+use Rattle.sr_occurs.specs.Occurring.{IsLive}
+use Rattle.sr_check.specs.Indexing.{numbers, place_from}
+use Rattle.sr_table.proofs.Paging.{by_test}
+use Rattle.sr_table.proofs.Numbering.{holds_push}
 use Rattle.sr_check.proofs.Grouping.{numbers_more}
 
 -- the place of a group that is the first, and of one that isn't

@@ -10,8 +10,9 @@ use Rattle.sr_model.specs.Chain.{Numbered, clauses, clause_of, open_literals, cl
 use Rattle.sr_base.specs.declared.names.Cause.TheVariants.{NotUnit}
 use Rattle.sr_check.specs.declared.chains.Open.TheVariants.{Nothing, One, More}
 use Rattle.sr_check.specs.Ends.{open_end, first_clause, KeepsFront}
-use Rattle.sr_check.specs.Trail.{Marking, Covers, CoversAll, CoversClauses}
-use Rattle.sr_check.proofs.Marking.{by_test, pair_push}
+use Rattle.sr_check.specs.Trail.{TrailValue, Covers, CoversAll, CoversClauses}
+use Rattle.sr_table.proofs.Paging.{by_test}
+use Rattle.sr_check.proofs.Trailing.{pair_push}
 
 -- what is covered
 pub covered_at : (room : ℕ) (ls : List Literal) (i : ℕ) (l : Literal) → CoversAll room ls → i < length ls → l ≡ get_or ls i l → Covers room l
@@ -43,10 +44,10 @@ pub first_at : (live : Numbered) (hints : List ℕ) (i : ℕ) → i < length hin
 first_at live hints i within = ap (first_clause live) (drop-cons hints i 0 within)
 
 -- the front is kept
-pub front_same : (m : Marking) → KeepsFront m m
+pub front_same : (m : TrailValue) → KeepsFront m m
 front_same m = record { front = take_all (length m.lits) m.lits (omega arith); longer = omega arith; room = omega arith }
 
-pub front_add : (old now next : Marking) (l : Literal) → KeepsFront old now → next.lits ≡ now.lits ++ l ∷ [] → now.room ≤ next.room → KeepsFront old next
+pub front_add : (old now next : TrailValue) (l : Literal) → KeepsFront old now → next.lits ≡ now.lits ++ l ∷ [] → now.room ≤ next.room → KeepsFront old next
 front_add old now next l k e r =
     let long : length next.lits ≡ length now.lits + 1 = ap length e ∙ length-append now.lits (l ∷ []) in
     record {
@@ -55,7 +56,7 @@ front_add old now next l k e r =
       room = omega (arith, k.room);
     }
 
-pub front_room : (old now next : Marking) → KeepsFront old now → next.lits ≡ now.lits → now.room ≤ next.room → KeepsFront old next
+pub front_room : (old now next : TrailValue) → KeepsFront old now → next.lits ≡ now.lits → now.room ≤ next.room → KeepsFront old next
 front_room old now next k e r = record { front = ap (take (length old.lits)) e ∙ k.front; longer = let long : length next.lits ≡ length now.lits = ap length e in omega (arith, k.longer); room = omega (arith, k.room) }
 
 -- what a hint does

@@ -6,11 +6,11 @@ use Rattle.std.proofs.lemmas.Bool.Decides.{nat_tests}
 use Rattle.sr_model.specs.Assignment.{holds_number}
 use Rattle.sr_model.specs.Chain.{Numbered, clause_of}
 use Rattle.sr_model.specs.Meeting.{Group, group_of}
-use Rattle.sr_check.specs.Pages.{Paged, entry}
+use Rattle.sr_table.specs.Pages.{Paged, entry}
 use Rattle.sr_check.specs.Indexing.{numbers, place_from, IsWithin, IsIndex, Notes}
-use Rattle.sr_check.proofs.Paging.{by_eq}
-use Rattle.sr_check.proofs.Marking.{by_test}
-use Rattle.sr_check.proofs.Dropping.{holds_push}
+use Rattle.sr_table.proofs.Paging.{by_eq}
+use Rattle.sr_table.proofs.Paging.{by_test}
+use Rattle.sr_table.proofs.Numbering.{holds_push}
 
 pub place_none : (k : ℕ) (gs : List Group) (n : ℕ) → holds_number n (numbers gs) ≡ false → place_from k gs n ≡ 0
 place_none k [] n h = refl

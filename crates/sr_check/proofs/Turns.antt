@@ -7,13 +7,14 @@ use Rattle.sr_model.specs.Assignment.{holds_number}
 use Rattle.sr_model.specs.Chain.{Numbered, clause_of}
 use Rattle.sr_model.specs.Judging.{without, first_dead}
 use Rattle.sr_arena.specs.Cells.{Cell, Memory, cell_at, put}
-use Rattle.sr_check.specs.Pages.{Paged, entry}
+use Rattle.sr_table.specs.Pages.{Paged, entry}
 use Rattle.sr_check.specs.Storage.{clause_at, IsLinked, IsMarked}
-use Rattle.sr_check.proofs.Paging.{by_eq}
-use Rattle.sr_check.proofs.Marking.{by_test}
-use Rattle.sr_check.proofs.Dropping.{holds_push, without_push, without_none}
-use Rattle.sr_check.proofs.Listing.{is_not, is_same, is_self}
-use Rattle.sr_check.proofs.Storing.{clause_some, cell_here, cell_other}
+use Rattle.sr_table.proofs.Paging.{by_eq}
+use Rattle.sr_table.proofs.Paging.{by_test}
+use Rattle.sr_table.proofs.Numbering.{holds_push}
+use Rattle.sr_check.proofs.Dropping.{without_push, without_none}
+use Rattle.sr_check.proofs.Finding.{is_not, is_same, is_self}
+use Rattle.sr_check.proofs.Storing.{alone, clause_some, cell_here, cell_other}
 
 -- what is found where numbers were dropped
 pub clause_without : (ns : List ℕ) (live : Numbered) (n : ℕ) → clause_of (without ns live) n ≡ cond (holds_number n ns) None (clause_of live n)
@@ -64,7 +65,7 @@ pub marked_put : (mem mem' : Memory) (table : Paged) (k n : ℕ) (b : Bool) → 
     → IsMarked mem' table n (cond (k == n) b (cell_at mem (entry table n)).marked)
 marked_put mem mem' table k n b s leads some e = ap (λ m. (cell_at m (entry table n)).marked) e ∙ by_eq k n
     (λ q. rw (is_self k n q) (ap (λ (x : Cell). x.marked) (cell_here mem (entry table k) (entry table n) c (s.leads k leads) (ap (entry table) (sym q)))))
-    (λ q. rw (is_not k n q) (ap (λ (x : Cell). x.marked) (cell_other mem (entry table k) (entry table n) c (λ z. q (s.alone k n leads (sym z))))))
+    (λ q. rw (is_not k n q) (ap (λ (x : Cell). x.marked) (cell_other mem (entry table k) (entry table n) c (λ z. q (alone mem table k n s leads (sym z))))))
   where
     c : Cell
     c = record (cell_at mem (entry table k)) { marked = b }

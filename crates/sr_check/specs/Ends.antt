@@ -3,7 +3,7 @@ use Rattle.std.specs.Prelude.{◌≡◌, ◌≤◌, ℕ, Option, None, List, [],
 use Rattle.sr_base.specs.Literal.{Literal}
 use Rattle.sr_model.specs.Chain.{Numbered, clause_of, HintEnd, closes, adds, misleads, ChainEnd, closed, unclosed, faulty}
 use Rattle.sr_model.specs.Meeting.{Meeting, met, unmet}
-use Rattle.sr_check.specs.Trail.{Marking}
+use Rattle.sr_check.specs.Trail.{TrailValue}
 use Rattle.sr_check.specs.declared.meeting.Meet.{Meet}
 use Rattle.sr_check.specs.declared.meeting.Meet.TheVariants.{Met, Unmet}
 use Rattle.sr_check.specs.declared.chains.Open.{Open}
@@ -35,7 +35,7 @@ chain_end Unclosed b = unclosed b
 chain_end (Faulty x) b = faulty x
 
 -- the literals that were there still stand in front, and no room was given up
-pub record KeepsFront (old new : Marking) : Type 0 where
+pub record KeepsFront (old new : TrailValue) : Type 0 where
   pub front : take (length old.lits) new.lits ≡ old.lits
   pub longer : length old.lits ≤ length new.lits
   pub room : old.room ≤ new.room

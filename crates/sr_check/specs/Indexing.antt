@@ -1,13 +1,10 @@
 -- Groups by the numbers of their clauses.
-use Rattle.std.specs.Prelude.{ℕ, ◌+◌, ◌≡◌, ◌==◌, ◌&&◌, false, true, is_some, cond, List, [], ◌∷◌, map}
+use Rattle.std.specs.Prelude.{ℕ, ◌+◌, ◌≡◌, ◌==◌, ◌&&◌, false, is_some, cond, List, [], ◌∷◌, map}
 use Rattle.sr_model.specs.Assignment.{holds_number}
 use Rattle.sr_model.specs.Chain.{Numbered, clause_of}
+use Rattle.sr_occurs.specs.Occurring.{IsLive}
 use Rattle.sr_model.specs.Meeting.{Group}
-use Rattle.sr_check.specs.Pages.{Paged, entry}
-
--- a live clause has the number
-abbrev pub IsLive : Numbered → ℕ → Type 0
-IsLive live n = is_some (clause_of live n) ≡ true
+use Rattle.sr_table.specs.Pages.{Paged, entry}
 
 abbrev pub numbers : List Group → List ℕ
 numbers gs = map (λ g. g.0) gs
@@ -31,4 +28,5 @@ IsIndex index live gs = (n : ℕ) → IsLive live n → entry index n ≡ place_
 
 -- a live clause is led to a place, if it was led nowhere
 abbrev pub Notes : Numbered → Paged → Paged → ℕ → ℕ → Type 0
-Notes live old new number place = (n : ℕ) → entry new n ≡ cond (number == n && is_some (clause_of live number) && entry old number == 0) place (entry old n)
+Notes live old new number place = (n : ℕ) → entry new n ≡ cond (number == n && is_some (clause_of live number) && entry old
+    number == 0) place (entry old n)

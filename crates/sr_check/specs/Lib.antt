@@ -1,10 +1,8 @@
-pub mod Pages
 pub mod Trail
 pub mod Storage
 pub mod Ends
 pub mod Indexing
-pub mod Occurring
 pub mod Candidates
-pub mod Numbers
 pub mod Ready
 pub mod Checking
+pub mod Trials

@@ -9,7 +9,7 @@ ghost use Rattle.sr_check.specs.Trail.{CoversAll, CoversClauses};
 ghost use Rattle.sr_check.specs.Ends.{open_end, hint_end, chain_end, first_clause, KeepsFront};
 
 use crate::live::LiveClauses;
-use crate::marks::Marks;
+use crate::trail::Trail;
 use sr_base::{Cause, Lit, NoMemory};
 
 /// The literals of a clause that aren't false.
@@ -26,7 +26,7 @@ enum Hint {
     Misleads(Cause),
 }
 
-/// How a chain ends; where it is unclosed the literals are those of the marks.
+/// How a chain ends; where it is unclosed the literals are those of the trail.
 #[derive(Clone, Copy)]
 pub enum End {
     Closed,
@@ -38,26 +38,26 @@ pub enum End {
 pub fn refute(
     strict: bool,
     live: &LiveClauses,
-    marks: &mut Marks,
+    trail: &mut Trail,
     lits: &[Lit],
     hints: &[u32],
 ) -> Result<End, NoMemory>
-    requires { CoversClauses marks.old.room (clauses live.now) }
-    ensures end { IfOk result (λ e. chain strict live.now (marks.old.lits ++ compl lits.now) hints.now ≡ chain_end e marks.new.lits) }
-    ensures open { IfOk result (λ e. e ≡ End.Unclosed → has_pair marks.new.lits ≡ false) }
-    ensures front { KeepsFront marks.old marks.new }
+    requires { CoversClauses trail.old.room (clauses live.now) }
+    ensures end { IfOk result (λ e. chain strict live.now (trail.old.lits ++ compl lits.now) hints.now ≡ chain_end e trail.new.lits) }
+    ensures open { IfOk result (λ e. e ≡ End.Unclosed → has_pair trail.new.lits ≡ false) }
+    ensures front { KeepsFront trail.old trail.new }
 {
-    assume(marks, lits)?;
-    follow(strict, live, marks, hints)
+    assume(trail, lits)?;
+    follow(strict, live, trail, hints)
 }
 
 /// Assumes the complements of literals.
-pub fn assume(marks: &mut Marks, lits: &[Lit]) -> Result<(), NoMemory>
-    ensures ok { OnOk result (marks.new.lits ≡ marks.old.lits ++ compl lits.now) }
-    ensures front { KeepsFront marks.old marks.new }
+pub fn assume(trail: &mut Trail, lits: &[Lit]) -> Result<(), NoMemory>
+    ensures ok { OnOk result (trail.new.lits ≡ trail.old.lits ++ compl lits.now) }
+    ensures front { KeepsFront trail.old trail.new }
 {
     for l in lits {
-        marks.add(l.neg())?;
+        trail.add(l.neg())?;
     }
     Ok(())
 }
@@ -68,24 +68,24 @@ pub fn assume(marks: &mut Marks, lits: &[Lit]) -> Result<(), NoMemory>
 fn follow(
     strict: bool,
     live: &LiveClauses,
-    marks: &mut Marks,
+    trail: &mut Trail,
     hints: &[u32],
 ) -> Result<End, NoMemory>
-    requires { CoversClauses marks.old.room (clauses live.now) }
-    ensures end { IfOk result (λ e. chain strict live.now marks.old.lits hints.now ≡ chain_end e marks.new.lits) }
-    ensures open { IfOk result (λ e. e ≡ End.Unclosed → has_pair marks.new.lits ≡ false) }
-    ensures front { KeepsFront marks.old marks.new }
+    requires { CoversClauses trail.old.room (clauses live.now) }
+    ensures end { IfOk result (λ e. chain strict live.now trail.old.lits hints.now ≡ chain_end e trail.new.lits) }
+    ensures open { IfOk result (λ e. e ≡ End.Unclosed → has_pair trail.new.lits ≡ false) }
+    ensures front { KeepsFront trail.old trail.new }
 {
-    if marks.has_pair() {
+    if trail.has_pair() {
         return Ok(closed_before(strict, hints));
     }
     let mut ahead = first_clause(live, hints);
     for (i, number) in hints.iter().enumerate() {
         let clause = ahead;
         ahead = first_clause(live, &hints[i + 1..]);
-        match follow_one(clause, marks, *number) {
+        match follow_one(clause, trail, *number) {
             Hint::Closes => return Ok(closed_before(strict, &hints[i + 1..])),
-            Hint::Adds(l) => marks.add(l)?,
+            Hint::Adds(l) => trail.add(l)?,
             Hint::Misleads(cause) => return Ok(End::Faulty(cause)),
         }
     }
@@ -115,13 +115,13 @@ fn first_clause<'a>(live: &LiveClauses<'a>, hints: &[u32]) -> Option<&'a [Lit]>
 
 /// What a hint does that names this clause.
 #[inline(always)]
-fn follow_one(clause: Option<&[Lit]>, marks: &Marks, number: u32) -> Hint
-    requires { IfSome clause (λ c. CoversAll marks.now.room c.now) }
-    ensures { hint_end result ≡ hint_of_clause marks.now.lits number (option_copied clause.entry) }
+fn follow_one(clause: Option<&[Lit]>, trail: &Trail, number: u32) -> Hint
+    requires { IfSome clause (λ c. CoversAll trail.now.room c.now) }
+    ensures { hint_end result ≡ hint_of_clause trail.now.lits number (option_copied clause.entry) }
 {
     match clause {
         None => Hint::Misleads(Cause::DeadHint(number)),
-        Some(lits) => match open_of(marks, lits) {
+        Some(lits) => match open_of(trail, lits) {
             Open::Nothing => Hint::Closes,
             Open::One(l) => Hint::Adds(l),
             Open::More => Hint::Misleads(Cause::NotUnit(number)),
@@ -131,13 +131,13 @@ fn follow_one(clause: Option<&[Lit]>, marks: &Marks, number: u32) -> Hint
 
 /// The literals that aren't false.
 #[inline]
-fn open_of(marks: &Marks, lits: &[Lit]) -> Open
-    requires { CoversAll marks.now.room lits.now }
-    ensures { result ≡ open_end (open_literals marks.now.lits lits.now) }
+fn open_of(trail: &Trail, lits: &[Lit]) -> Open
+    requires { CoversAll trail.now.room lits.now }
+    ensures { result ≡ open_end (open_literals trail.now.lits lits.now) }
 {
     let mut found = None;
     for l in lits {
-        if !marks.is_false(*l) {
+        if !trail.is_false(*l) {
             if found.is_some() {
                 return Open::More;
             }

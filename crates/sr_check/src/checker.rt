@@ -4,19 +4,18 @@ ghost use Rattle.sr_model.specs.Chain.{clauses};
 ghost use Rattle.sr_model.specs.Meeting.{met};
 ghost use Rattle.sr_model.specs.Judging.{clause_cells, cells_of, numbered_from, without, first_dead, drop_meets, start, after_item, stepped, dropped};
 ghost use Rattle.sr_wit.specs.LsrItems.{item_of};
-ghost use Rattle.sr_check.specs.Checking.{passes_cells, new_cells, added};
+ghost use Rattle.sr_check.specs.Checking.{begun, taken, passes_cells, new_cells, taken_cells, cells_with, tidy_cells, IsTidy, added, with_formula};
 ghost use Rattle.sr_check.specs.Storage.{HoldsLive};
 ghost use Rattle.sr_check.specs.Trail.{CoversClauses};
 
-use crate::marks::{Marks, cover_all};
 use crate::meeting::{Meet, Scratch, meet_step};
-use crate::number_set::NumberSet;
-use crate::occurrences::Occurrences;
-use crate::pages::Table;
 use crate::storage::Storage;
-use sr_arena::ClauseMem;
-use sr_base::{AddStop, Cause, Items, Limits, Lit, NoMemory};
+use crate::trail::{Trail, cover_all};
+use sr_arena::{ClauseMem, MOST_USED};
+use sr_base::{AddError, Cause, ClauseId, Items, Limits, Lit, MOST_CELLS, NoMemory};
 use sr_model::Verdict;
+use sr_occurs::Occurrences;
+use sr_table::{IdSet, IdTable};
 use sr_wit::{Formula, LsrItem, Step};
 use std::alloc::Global;
 use std::marker::Model;
@@ -27,7 +26,7 @@ const SLACK: u64 = 65_536;
 
 /// Why an item isn't taken. The checker is then as it was.
 #[derive(Clone, Copy, Debug, PartialEq, Eq, Error)]
-pub enum TakeStop {
+pub enum TakeError {
     /// The clauses would be held in more cells than the limit.
     #[error("the limit of cells is passed")]
     Cells,
@@ -35,14 +34,14 @@ pub enum TakeStop {
     NoMemory,
 }
 
-impl From<NoMemory> for TakeStop {
+impl From<NoMemory> for TakeError {
     ghost use Rattle.std.specs.Prelude.{◌≡◌};
-    ghost use Rattle.sr_check.specs.declared.checker.TakeStop.TheVariants.{NoMemory};
+    ghost use Rattle.sr_check.specs.declared.checker.TakeError.TheVariants.{NoMemory};
 
     ghost from_gives = { λ _ e. e ≡ NoMemory };
 
-    fn from(_fault: NoMemory) -> TakeStop {
-        TakeStop::NoMemory
+    fn from(_fault: NoMemory) -> TakeError {
+        TakeError::NoMemory
     }
 }
 
@@ -78,26 +77,26 @@ impl Checker {
         formula: Formula,
         limits: &Limits,
         strict: bool,
-    ) -> Result<Checker, AddStop>
-        ensures ok { IfOk result (λ c. c ≡ record { strict = strict; most = limits.now.cells; state = start formula.clauses; used = cells_of formula.clauses }) }
-        ensures cells { result ≡ Err AddStop.Cells → limits.now.cells < cells_of formula.clauses }
+    ) -> Result<Checker, AddError>
+        ensures ok { IfOk result (λ c. c ≡ begun strict limits.now.cells formula.clauses) }
+        ensures cells { result ≡ Err AddError.Cells → limits.now.cells < cells_of formula.clauses }
         ensures fits { OnOk result (cells_of formula.clauses ≤ limits.now.cells) }
     {
         if formula.cells() > limits.cells() as u64 {
-            return Err(AddStop::Cells);
+            return Err(AddError::Cells);
         }
         let Ok(mut live) = Storage::new(alloc, limits) else {
-            return Err(AddStop::NoMemory);
+            return Err(AddError::NoMemory);
         };
-        let Ok(index) = Table::new(alloc) else {
-            return Err(AddStop::NoMemory);
+        let Ok(index) = IdTable::new(alloc) else {
+            return Err(AddError::NoMemory);
         };
-        let Ok(numbers) = NumberSet::new(alloc) else {
-            return Err(AddStop::NoMemory);
+        let Ok(numbers) = IdSet::new(alloc) else {
+            return Err(AddError::NoMemory);
         };
-        let mut marks = Marks::new(alloc);
-        let Ok(()) = add_clauses(&mut live, &mut marks, &formula) else {
-            return Err(AddStop::NoMemory);
+        let mut trail = Trail::new(alloc);
+        let Ok(()) = add_clauses(&mut live, &mut trail, &formula) else {
+            return Err(AddError::NoMemory);
         };
         let verdict = if formula.has_empty() {
             Verdict::Verified
@@ -110,7 +109,7 @@ impl Checker {
             verdict,
             scratch: Scratch {
                 alloc,
-                marks,
+                trail,
                 index,
                 lists: Occurrences::new(alloc),
                 numbers,
@@ -142,15 +141,18 @@ impl Checker {
     /// the proof only under strict checking, where it names one that isn't live.
     ///
     /// `Cells` comes only for a step that is met and whose clause would pass the limit. After it, and where memory
-    /// lacks, the checker is as it was; its memory may have been compacted.
-    pub fn take(&mut self, item: &LsrItem) -> Result<Verdict, TakeStop>
+    /// lacks, the checker is as it was; its memory may have been compacted. That is done only where the used cells are above
+    /// twice the held ones and 1,024 more.
+    pub fn take(&mut self, item: &LsrItem) -> Result<Verdict, TakeError>
         requires { self.old.state.verdict ≡ Verdict.Going }
-        ensures state { OnOk result (self.new ≡ record self.old { state = after_item self.old.strict self.old.state (item_of item.now); used = self.new.used }) }
+        ensures state { OnOk result (self.new ≡ taken self.old (item_of item.now) self.new.used) }
         ensures verdict { IfOk result (λ v. v ≡ self.new.state.verdict) }
-        ensures used { OnOk result (self.new.used ≤ 2 * cells_of (clauses self.old.state.live.clauses) + 1024 + new_cells self.old (item_of item.now)) }
-        ensures cells { result ≡ Err TakeStop.Cells → passes_cells self.old (item_of item.now) ≡ true }
+        ensures used { OnOk result (self.new.used ≤ tidy_cells self.old + new_cells self.old (item_of item.now)) }
+        ensures cells { result ≡ Err TakeError.Cells → passes_cells self.old (item_of item.now) ≡ true }
         ensures fits { OnOk result (passes_cells self.old (item_of item.now) ≡ false) }
+        ensures rare { IsTidy self.old → self.new.used ≡ self.old.used + taken_cells result self.old (item_of item.now) }
         ensures err { OnErr result (self.new ≡ record self.old { used = self.new.used }) }
+        ensures fewer { OnErr result (self.new.used ≤ self.old.used) }
     {
         self.live.tidy(self.scratch.alloc)?;
         match item {
@@ -160,11 +162,12 @@ impl Checker {
     }
 
     /// Takes a step.
-    fn take_step(&mut self, step: &Step) -> Result<Verdict, TakeStop>
-        requires { self.old.state.verdict ≡ Verdict.Going }
-        ensures state { OnOk result (self.new ≡ record self.old { state = after_item self.old.strict self.old.state (stepped step.now); used = self.old.used + new_cells self.old (stepped step.now) }) }
+    fn take_step(&mut self, step: &Step) -> Result<Verdict, TakeError>
+        requires going { self.old.state.verdict ≡ Verdict.Going }
+        requires tidy { self.old.used ≤ MOST_USED }
+        ensures state { OnOk result (self.new ≡ taken self.old (stepped step.now) (self.old.used + new_cells self.old (stepped step.now))) }
         ensures verdict { IfOk result (λ v. v ≡ self.new.state.verdict) }
-        ensures cells { result ≡ Err TakeStop.Cells → passes_cells self.old (stepped step.now) ≡ true }
+        ensures cells { result ≡ Err TakeError.Cells → passes_cells self.old (stepped step.now) ≡ true }
         ensures fits { OnOk result (passes_cells self.old (stepped step.now) ≡ false) }
         ensures err { OnErr result (self.new ≡ self.old) }
     {
@@ -193,17 +196,18 @@ impl Checker {
     }
 
     /// Makes a clause live under a new number, unless that passes the limit.
-    fn add(&mut self, id: u32, lits: &[Lit]) -> Result<(), TakeStop>
-        requires { self.old.state.live.last < id }
+    fn add(&mut self, id: ClauseId, lits: &[Lit]) -> Result<(), TakeError>
+        requires new { self.old.state.live.last < id }
+        requires tidy { self.old.used ≤ MOST_USED }
         ensures ok { OnOk result (self.new ≡ added self.old id lits.now) }
-        ensures cells { result ≡ Err TakeStop.Cells → self.old.most < cells_of (clauses self.old.state.live.clauses) + clause_cells lits.now }
-        ensures fits { OnOk result (cells_of (clauses self.old.state.live.clauses) + clause_cells lits.now ≤ self.old.most) }
+        ensures cells { result ≡ Err TakeError.Cells → self.old.most < cells_with self.old lits.now }
+        ensures fits { OnOk result (cells_with self.old lits.now ≤ self.old.most) }
         ensures err { OnErr result (self.new ≡ self.old) }
     {
         if !self.live.has_room(lits) {
-            return Err(TakeStop::Cells);
+            return Err(TakeError::Cells);
         }
-        cover_all(&mut self.scratch.marks, lits)?;
+        cover_all(&mut self.scratch.trail, lits)?;
         self.scratch.lists.enter(id, lits)?;
         self.live.add_last(id, lits)?;
         self.scratch.lists.limit(2 * self.live.cells() + SLACK);
@@ -239,18 +243,20 @@ fn drop_clauses(strict: bool, live: &mut Storage, ids: &[u32]) -> Option<u32>
     None
 }
 
-/// Adds the clauses of a formula under their numbers, and makes room for the marks of their literals.
-fn add_clauses(live: &mut Storage, marks: &mut Marks, formula: &Formula) -> Result<(), NoMemory>
+/// Adds the clauses of a formula under their numbers, and makes room for their literals on the trail.
+fn add_clauses(live: &mut Storage, trail: &mut Trail, formula: &Formula) -> Result<(), NoMemory>
     requires none { live.old.clauses ≡ [] }
     requires last { live.old.last ≡ 0 }
     requires fits { cells_of formula.now.clauses ≤ live.old.most }
-    ensures live { OnOk result (live.new ≡ record live.old { clauses = numbered_from 1 formula.now.clauses; last = length formula.now.clauses; used = live.old.used + cells_of formula.now.clauses }) }
-    ensures lits { marks.new.lits ≡ marks.old.lits }
-    ensures room { OnOk result (CoversClauses marks.new.room (clauses live.new.clauses)) }
+    requires unused { live.old.used ≡ 0 }
+    requires bound { live.old.most ≤ MOST_CELLS }
+    ensures live { OnOk result (live.new ≡ with_formula live.old formula.now.clauses) }
+    ensures lits { trail.new.lits ≡ trail.old.lits }
+    ensures room { OnOk result (CoversClauses trail.new.room (clauses live.new.clauses)) }
 {
     for i in 0..formula.count() {
         let lits = formula.clause(i + 1);
-        cover_all(marks, lits)?;
+        cover_all(trail, lits)?;
         live.add_last(i + 1, lits)?;
     }
     Ok(())

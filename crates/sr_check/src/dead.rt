@@ -4,36 +4,37 @@ ghost use Rattle.std.specs.Prelude.{◌≡◌, ◌≢◌, ℕ, ◌≤◌, Bool, 
 ghost use Rattle.sr_model.specs.Assignment.{holds_number};
 ghost use Rattle.sr_model.specs.Chain.{Numbered, clause_of};
 ghost use Rattle.sr_model.specs.Judging.{first_dead};
-ghost use Rattle.sr_check.specs.Pages.{entry};
-ghost use Rattle.sr_check.specs.Storage.{clause_at, IsLinked, IsMarked, AreUnmarked, KeepsClauses};
+ghost use Rattle.sr_table.specs.Pages.{entry};
+ghost use Rattle.sr_check.specs.Storage.{LeadsTo, IsLinked, Unmarks, IsMarked, AreUnmarked, KeepsClauses};
 
-use crate::pages::Table;
 use sr_arena::{ClauseMem, Cref};
+use sr_base::ClauseId;
+use sr_table::IdTable;
 
 /// The first of the numbers that isn't live when its turn comes.
-pub fn find_dead(mem: &mut ClauseMem, table: &Table, numbers: &[u32]) -> Option<u32>
+pub fn find_dead(mem: &mut ClauseMem, table: &IdTable, ids: &[ClauseId]) -> Option<ClauseId>
     requires linked { IsLinked mem.old table.now }
     requires unmarked { AreUnmarked mem.old table.now }
-    ensures dead { (live : Numbered) → ((n : ℕ) → clause_of live n ≡ clause_at mem.old table.now n) → result ≡ first_dead live numbers.now }
+    ensures dead { (live : Numbered) → LeadsTo mem.old table.now live → result ≡ first_dead live ids.now }
     ensures same { KeepsClauses mem.old mem.new }
     ensures unmarked { AreUnmarked mem.new table.now }
 {
-    let reached = mark_each(mem, table, numbers);
-    unmark(mem, table, &numbers[..reached]);
-    numbers.get(reached).copied()
+    let reached = mark_each(mem, table, ids);
+    unmark(mem, table, &ids[..reached]);
+    ids.get(reached).copied()
 }
 
 /// Marks the clauses of the numbers up to the first that isn't live or is marked already, and answers how many they are.
-fn mark_each(mem: &mut ClauseMem, table: &Table, numbers: &[u32]) -> usize
+fn mark_each(mem: &mut ClauseMem, table: &IdTable, ids: &[ClauseId]) -> usize
     requires linked { IsLinked mem.old table.now }
     requires unmarked { AreUnmarked mem.old table.now }
-    ensures within { result ≤ length numbers.now }
-    ensures dead { (live : Numbered) → ((n : ℕ) → clause_of live n ≡ clause_at mem.old table.now n) → first_dead live numbers.now ≡ slice_get numbers.now result }
-    ensures marks { (n : ℕ) → entry table.now n ≢ 0 → IsMarked mem.new table.now n (holds_number n (take result numbers.now)) }
+    ensures within { result ≤ length ids.now }
+    ensures dead { (live : Numbered) → LeadsTo mem.old table.now live → first_dead live ids.now ≡ slice_get ids.now result }
+    ensures marks { (n : ℕ) → entry table.now n ≢ 0 → IsMarked mem.new table.now n (holds_number n (take result ids.now)) }
     ensures same { KeepsClauses mem.old mem.new }
 {
-    for (i, number) in numbers.iter().enumerate() {
-        let Some(at) = Cref::from_index(table.get(*number)) else {
+    for (i, id) in ids.iter().enumerate() {
+        let Some(at) = Cref::from_index(table.get(*id)) else {
             return i;
         };
         if mem.mark(at) {
@@ -41,17 +42,17 @@ fn mark_each(mem: &mut ClauseMem, table: &Table, numbers: &[u32]) -> usize
         }
         mem.set_mark(at, true);
     }
-    numbers.len()
+    ids.len()
 }
 
 /// Takes away the marks of the clauses of the numbers.
-fn unmark(mem: &mut ClauseMem, table: &Table, numbers: &[u32])
+fn unmark(mem: &mut ClauseMem, table: &IdTable, ids: &[ClauseId])
     requires { IsLinked mem.old table.now }
-    ensures marks { (n : ℕ) (b : Bool) → entry table.now n ≢ 0 → IsMarked mem.old table.now n b → IsMarked mem.new table.now n (b && not (holds_number n numbers.now)) }
+    ensures marks { Unmarks mem.old mem.new table.now ids.now }
     ensures same { KeepsClauses mem.old mem.new }
 {
-    for number in numbers {
-        if let Some(at) = Cref::from_index(table.get(*number)) {
+    for id in ids {
+        if let Some(at) = Cref::from_index(table.get(*id)) {
             mem.set_mark(at, false);
         }
     }

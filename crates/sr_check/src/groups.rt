@@ -2,16 +2,16 @@
 // its first group, counted from 1. It is built for one step, and all that was set is unset after it.
 ghost use Rattle.std.specs.Prelude.{◌≡◌, OnOk, OnErr};
 ghost use Rattle.sr_model.specs.Meeting.{group_of};
-ghost use Rattle.sr_check.specs.Pages.{entry, SameEntries};
+ghost use Rattle.sr_table.specs.Pages.{entry, SameEntries};
 ghost use Rattle.sr_check.specs.Indexing.{place_from, IsClear, IsWithin, IsIndex, Notes};
 
 use crate::live::LiveClauses;
-use crate::pages::Table;
 use sr_base::NoMemory;
+use sr_table::IdTable;
 use sr_wit::GroupList;
 
 /// Leads from each live clause to its first group.
-pub fn build(index: &mut Table, live: &LiveClauses, groups: &GroupList) -> Result<(), NoMemory>
+pub fn build(index: &mut IdTable, live: &LiveClauses, groups: &GroupList) -> Result<(), NoMemory>
     requires { IsClear index.old }
     ensures ok { OnOk result (IsIndex index.new live.now groups.now) }
     ensures within { IsWithin index.new groups.now }
@@ -26,7 +26,7 @@ pub fn build(index: &mut Table, live: &LiveClauses, groups: &GroupList) -> Resul
 }
 
 /// Leads from a live clause to a place, if it leads nowhere yet.
-fn note(index: &mut Table, live: &LiveClauses, number: u32, place: u32) -> Result<(), NoMemory>
+fn note(index: &mut IdTable, live: &LiveClauses, number: u32, place: u32) -> Result<(), NoMemory>
     ensures ok { OnOk result (Notes live.now index.old index.new number place) }
     ensures err { OnErr result (SameEntries index.old index.new) }
 {
@@ -37,7 +37,7 @@ fn note(index: &mut Table, live: &LiveClauses, number: u32, place: u32) -> Resul
 }
 
 /// Unsets the numbers of the groups.
-pub fn forget(index: &mut Table, groups: &GroupList)
+pub fn forget(index: &mut IdTable, groups: &GroupList)
     requires { IsWithin index.old groups.now }
     ensures { IsClear index.new }
 {
@@ -47,7 +47,7 @@ pub fn forget(index: &mut Table, groups: &GroupList)
 }
 
 /// The hints for a clause: those of its first group, to which the table leads, or none.
-pub fn hints_for<'a>(index: &Table, groups: &'a GroupList, number: u32) -> &'a [u32]
+pub fn hints_for<'a>(index: &IdTable, groups: &'a GroupList, number: u32) -> &'a [u32]
     requires { entry index.now number ≡ place_from 1 groups.now number }
     ensures { result.now ≡ group_of groups.now number }
 {

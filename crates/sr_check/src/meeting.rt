@@ -1,25 +1,25 @@
 // Meeting a step: by the chain of its prefix, or by its witness.
 ghost use Rattle.std.specs.Prelude.{◌≡◌, ◌≤◌, false, IfOk};
-ghost use Rattle.sr_model.specs.Substitution.{has_pair, substitution, substitution_for, IsPivot};
+ghost use Rattle.sr_model.specs.Substitution.{has_pair, substitution, IsPivot};
 ghost use Rattle.sr_model.specs.Chain.{clauses};
 ghost use Rattle.sr_model.specs.Meeting.{no_groups, witness_meets, meets_over, meets};
 ghost use Rattle.sr_check.specs.Indexing.{IsClear, IsIndex};
 ghost use Rattle.sr_check.specs.Ready.{IsReady};
-ghost use Rattle.sr_check.specs.Occurring.{KeepsListed};
+ghost use Rattle.sr_occurs.specs.Occurring.{KeepsListed};
 ghost use Rattle.sr_check.specs.Candidates.{AreRising};
 ghost use Rattle.sr_check.specs.Trail.{CoversClauses};
+ghost use Rattle.sr_check.specs.Trials.{step_meets};
 ghost use Rattle.sr_check.specs.Ends.{meeting_of};
 
-use crate::candidates::gather_candidates;
 use crate::chains::{End, refute};
 use crate::groups::{build, forget};
+use crate::listing::build_lists;
 use crate::live::LiveClauses;
-use crate::marks::Marks;
-use crate::number_set::NumberSet;
-use crate::occurrences::Occurrences;
-use crate::pages::Table;
+use crate::trail::Trail;
 use crate::witness::{Trial, meet_witness};
 use sr_base::{Cause, Lit, LitList, NoMemory};
+use sr_occurs::{Occurrences, gather_candidates};
+use sr_table::{IdSet, IdTable};
 use sr_wit::{GroupList, Step, Subst};
 use std::alloc::Global;
 
@@ -30,16 +30,16 @@ pub enum Meet {
     Unmet(Cause),
 }
 
-/// What is needed besides the clauses while a step is met: marks, a table for its groups, lists that tell the clauses of
-/// a literal, and room for the numbers of clauses and for what is left of a clause. Marks and table are clear between
+/// What is needed besides the clauses while a step is met: a trail, a table for its groups, lists that tell the clauses of
+/// a literal, and room for the numbers of clauses and for what is left of a clause. Trail and table are clear between
 /// steps.
 #[derive(Drop)]
 pub struct Scratch {
     pub alloc: Global,
-    pub marks: Marks,
-    pub index: Table,
+    pub trail: Trail,
+    pub index: IdTable,
     pub lists: Occurrences,
-    pub numbers: NumberSet,
+    pub numbers: IdSet,
     pub left: LitList,
 }
 
@@ -52,19 +52,19 @@ pub fn meet_step(
     step: &Step,
 ) -> Result<Meet, NoMemory>
     requires clear { IsReady scratch.old }
-    requires room { CoversClauses scratch.old.marks.room (clauses live.now) }
+    requires room { CoversClauses scratch.old.trail.room (clauses live.now) }
     requires rising { AreRising live.now }
     requires lists { KeepsListed scratch.old.lists live.now }
     ensures met { IfOk result (λ m. meets strict live.now last step.now ≡ meeting_of m) }
     ensures clear { IsReady scratch.new }
-    ensures room { scratch.old.marks.room ≤ scratch.new.marks.room }
+    ensures room { scratch.old.trail.room ≤ scratch.new.trail.room }
     ensures lists { KeepsListed scratch.new.lists live.now }
 {
     if step.id() <= last {
         return Ok(Meet::Unmet(Cause::NotNew));
     }
     let met = meet_over(strict, live, scratch, step);
-    scratch.marks.cut(0);
+    scratch.trail.truncate(0);
     met
 }
 
@@ -76,17 +76,17 @@ fn meet_over(
     step: &Step,
 ) -> Result<Meet, NoMemory>
     requires clear { IsReady scratch.old }
-    requires room { CoversClauses scratch.old.marks.room (clauses live.now) }
+    requires room { CoversClauses scratch.old.trail.room (clauses live.now) }
     requires rising { AreRising live.now }
     requires lists { KeepsListed scratch.old.lists live.now }
     ensures met { IfOk result (λ m. meets_over strict live.now step.now ≡ meeting_of m) }
     ensures clear { IsClear scratch.new.index }
-    ensures room { scratch.old.marks.room ≤ scratch.new.marks.room }
+    ensures room { scratch.old.trail.room ≤ scratch.new.trail.room }
     ensures lists { KeepsListed scratch.new.lists live.now }
 {
     let lits = step.clause().lits();
     let hints = step.prefix().as_slice();
-    match refute(strict, live, &mut scratch.marks, lits, hints)? {
+    match refute(strict, live, &mut scratch.trail, lits, hints)? {
         End::Closed => Ok(refuse_groups(strict, step.groups())),
         End::Faulty(cause) => Ok(Meet::Unmet(cause)),
         End::Unclosed => match lits {
@@ -115,14 +115,14 @@ fn meet_by_witness(
     pivot: Lit,
 ) -> Result<Meet, NoMemory>
     requires clear { IsClear scratch.old.index }
-    requires no_pair { has_pair scratch.old.marks.lits ≡ false }
-    requires room { CoversClauses scratch.old.marks.room (clauses live.now) }
+    requires no_pair { has_pair scratch.old.trail.lits ≡ false }
+    requires room { CoversClauses scratch.old.trail.room (clauses live.now) }
     requires rising { AreRising live.now }
     requires lists { KeepsListed scratch.old.lists live.now }
     requires pivot { IsPivot pivot step.now.clause }
-    ensures met { IfOk result (λ m. witness_meets strict live.now scratch.old.marks.lits (substitution_for step.now.clause step.now.witness) step.now.groups ≡ meeting_of m) }
+    ensures met { IfOk result (λ m. step_meets strict live.now scratch.old.trail.lits step.now ≡ meeting_of m) }
     ensures clear { IsClear scratch.new.index }
-    ensures room { scratch.old.marks.room ≤ scratch.new.marks.room }
+    ensures room { scratch.old.trail.room ≤ scratch.new.trail.room }
     ensures lists { KeepsListed scratch.new.lists live.now }
 {
     let groups = step.groups();
@@ -143,14 +143,14 @@ fn try_witness(
     pivot: Lit,
 ) -> Result<Meet, NoMemory>
     requires index { IsIndex scratch.old.index live.now step.now.groups }
-    requires no_pair { has_pair scratch.old.marks.lits ≡ false }
-    requires room { CoversClauses scratch.old.marks.room (clauses live.now) }
+    requires no_pair { has_pair scratch.old.trail.lits ≡ false }
+    requires room { CoversClauses scratch.old.trail.room (clauses live.now) }
     requires rising { AreRising live.now }
     requires lists { KeepsListed scratch.old.lists live.now }
     requires pivot { IsPivot pivot step.now.clause }
-    ensures met { IfOk result (λ m. witness_meets strict live.now scratch.old.marks.lits (substitution_for step.now.clause step.now.witness) step.now.groups ≡ meeting_of m) }
+    ensures met { IfOk result (λ m. step_meets strict live.now scratch.old.trail.lits step.now ≡ meeting_of m) }
     ensures index { scratch.new.index ≡ scratch.old.index }
-    ensures room { scratch.old.marks.room ≤ scratch.new.marks.room }
+    ensures room { scratch.old.trail.room ≤ scratch.new.trail.room }
     ensures lists { KeepsListed scratch.new.lists live.now }
 {
     let groups = step.groups();
@@ -172,17 +172,23 @@ fn try_subst(
     groups: &GroupList,
 ) -> Result<Meet, NoMemory>
     requires index { IsIndex scratch.old.index live.now groups.now }
-    requires no_pair { has_pair scratch.old.marks.lits ≡ false }
-    requires room { CoversClauses scratch.old.marks.room (clauses live.now) }
+    requires no_pair { has_pair scratch.old.trail.lits ≡ false }
+    requires room { CoversClauses scratch.old.trail.room (clauses live.now) }
     requires rising { AreRising live.now }
     requires lists { KeepsListed scratch.old.lists live.now }
-    ensures met { IfOk result (λ m. witness_meets strict live.now scratch.old.marks.lits (substitution subst.now) groups.now ≡ meeting_of m) }
+    ensures met { IfOk result (λ m. witness_meets strict live.now scratch.old.trail.lits (substitution subst.now) groups.now
+        ≡ meeting_of m) }
     ensures index { scratch.new.index ≡ scratch.old.index }
-    ensures room { scratch.old.marks.room ≤ scratch.new.marks.room }
+    ensures room { scratch.old.trail.room ≤ scratch.new.trail.room }
     ensures lists { KeepsListed scratch.new.lists live.now }
 {
-    scratch.lists.build(live)?;
-    gather_candidates(&mut scratch.lists, live, subst, &mut scratch.numbers)?;
+    build_lists(scratch.alloc, &mut scratch.lists, live)?;
+    gather_candidates(
+        &mut scratch.lists,
+        live.table(),
+        subst,
+        &mut scratch.numbers,
+    )?;
     let trial = Trial {
         strict,
         live,
@@ -193,7 +199,7 @@ fn try_subst(
     meet_witness(
         &trial,
         &mut scratch.numbers,
-        &mut scratch.marks,
+        &mut scratch.trail,
         &mut scratch.left,
     )
 }

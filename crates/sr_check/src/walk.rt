@@ -1,51 +1,51 @@
 // A walk over the live clauses in order.
-ghost use Rattle.std.specs.Prelude.{◌≡◌, ◌++◌, [], IfNone};
-ghost use Rattle.sr_check.specs.Storage.{live_of, IsLinked, taken};
+ghost use Rattle.std.specs.Prelude.{◌≡◌, ◌++◌, [], false, IfNone};
+ghost use Rattle.sr_arena.specs.Cells.{cell_at};
+ghost use Rattle.sr_check.specs.Storage.{live_of, taken};
 
-use crate::pages::Table;
+use crate::reading::lits_at;
 use sr_arena::{ClauseMem, Cref};
-use sr_base::Lit;
+use sr_base::{ClauseId, Lit};
 use std::marker::Model;
 
-/// The live clauses that a walk has still to come to.
+/// The live clauses that a walk has still to come to: those after the last one that it came to.
 #[derive(Drop)]
 pub struct Walk<'a> {
     mem: &'a ClauseMem,
-    ids: &'a [u32],
-    table: &'a Table,
+    last: Option<Cref>,
 }
 
 impl<'a> Model for Walk<'a> {
+    ghost use Rattle.std.specs.Prelude.{◌≡◌, ◌+◌, drop, false};
     ghost use Rattle.sr_model.specs.Chain.{Numbered};
-    ghost use Rattle.sr_check.specs.Storage.{live_of, IsLinked};
+    ghost use Rattle.sr_arena.specs.Cells.{reference, cell_at, IsHeldOrNone};
+    ghost use Rattle.sr_check.specs.Storage.{numbered_in};
 
     ghost Value = { Numbered };
 
-    ghost view = { λ w. live_of w.mem.now w.ids.now w.table.now };
+    ghost view = { λ w. numbered_in (drop (reference w.last + 1) w.mem.now.cells) };
 
-    ghost invariant = { λ w. IsLinked w.mem.now w.table.now };
+    ghost invariant = { λ w. IsHeldOrNone w.mem.now w.last × ((cell_at w.mem.now 0).held ≡ false) };
 }
 
 impl<'a> Walk<'a> {
-    /// A walk over the clauses of the numbers.
-    pub fn new(mem: &'a ClauseMem, ids: &'a [u32], table: &'a Table) -> Walk<'a>
-        requires { IsLinked mem.now table.now }
-        ensures { result ≡ live_of mem.now ids.now table.now }
+    /// A walk over the clauses of a memory.
+    pub fn new(mem: &'a ClauseMem) -> Walk<'a>
+        requires { (cell_at mem.now 0).held ≡ false }
+        ensures { result ≡ live_of mem.now }
     {
-        Walk { mem, ids, table }
+        Walk { mem, last: None }
     }
 
     /// The next clause, with its number.
-    pub fn next(&mut self) -> Option<(u32, &'a [Lit])>
+    pub fn next(&mut self) -> Option<(ClauseId, &'a [Lit])>
         ensures next { self.old ≡ taken result ++ self.new }
         ensures end { IfNone result (self.old ≡ []) }
     {
-        while let [id, rest @ ..] = self.ids {
-            self.ids = rest;
-            if let Some(at) = Cref::from_index(self.table.get(*id)) {
-                return Some((*id, self.mem.peek(at)));
-            }
-        }
-        None
+        let Some(at) = self.mem.next(self.last) else {
+            return None;
+        };
+        self.last = Some(at);
+        Some((self.mem.number(at), lits_at(self.mem, at)))
     }
 }

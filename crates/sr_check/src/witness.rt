@@ -1,22 +1,24 @@
 // Meeting a step by its witness (Buss and Thapen 2019; Codel, Avigad and Heule 2024). Each live clause that the witness
 // touches and doesn't satisfy is refuted, with the complements of what is left of it, by the hints of its group.
-ghost use Rattle.std.specs.Prelude.{◌≡◌, ◌≤◌, [], false, cond, IfOk};
+ghost use Rattle.std.specs.Prelude.{◌≡◌, ◌≤◌, false, IfOk};
 ghost use Rattle.sr_model.specs.Substitution.{has_pair, substitution, reduction};
 ghost use Rattle.sr_model.specs.Chain.{clauses};
-ghost use Rattle.sr_model.specs.Meeting.{needs_hints, left_meets, all_left_meet, groups_fit, witness_meets, met};
+ghost use Rattle.sr_model.specs.Meeting.{needs_hints};
 ghost use Rattle.sr_check.specs.Trail.{CoversClauses};
-ghost use Rattle.sr_check.specs.Candidates.{AreRising, HoldsLeft, number_meets, list_meets};
-ghost use Rattle.sr_check.specs.Indexing.{IsIndex, IsLive};
+ghost use Rattle.sr_occurs.specs.Candidates.{HoldsLeft};
+ghost use Rattle.sr_check.specs.Candidates.{AreRising};
+ghost use Rattle.sr_check.specs.Trials.{subst_of, trial_meets, trial_fits, trial_meets_all, trial_meets_list, trial_meets_number, trial_meets_clause};
+ghost use Rattle.sr_occurs.specs.Occurring.{IsLive};
+ghost use Rattle.sr_check.specs.Indexing.{IsIndex};
 ghost use Rattle.sr_check.specs.Ends.{meeting_of};
 
 use crate::chains::{End, assume, refute};
 use crate::groups::hints_for;
 use crate::live::LiveClauses;
-use crate::marks::Marks;
 use crate::meeting::Meet;
-use crate::number_set::NumberSet;
-use crate::pages::Table;
-use sr_base::{Cause, Lit, LitList, NoMemory};
+use crate::trail::Trail;
+use sr_base::{Cause, ClauseId, Lit, LitList, NoMemory};
+use sr_table::{IdSet, IdTable};
 use sr_wit::{GroupList, Reduced, Subst};
 
 /// A witness, what it is tried on, and the groups of hints with the table that leads to them.
@@ -26,52 +28,52 @@ pub struct Trial<'a> {
     pub live: &'a LiveClauses<'a>,
     pub subst: &'a Subst,
     pub groups: &'a GroupList,
-    pub index: &'a Table,
+    pub index: &'a IdTable,
 }
 
-/// How a step is met by its witness, with the numbers of the clauses of which it may leave something. The marks hold what
+/// How a step is met by its witness, with the numbers of the clauses of which it may leave something. The trail holds what
 /// the prefix reached, and keep it.
 pub fn meet_witness(
     trial: &Trial,
-    numbers: &mut NumberSet,
-    marks: &mut Marks,
+    numbers: &mut IdSet,
+    trail: &mut Trail,
     left: &mut LitList,
 ) -> Result<Meet, NoMemory>
-    requires no_pair { has_pair marks.old.lits ≡ false }
-    requires room { CoversClauses marks.old.room (clauses trial.now.live.now) }
+    requires no_pair { has_pair trail.old.lits ≡ false }
+    requires room { CoversClauses trail.old.room (clauses trial.now.live.now) }
     requires index { IsIndex trial.now.index.now trial.now.live.now trial.now.groups.now }
     requires rising { AreRising trial.now.live.now }
-    requires left { HoldsLeft (substitution trial.now.subst.now) numbers.old trial.now.live.now }
-    ensures met { IfOk result (λ m. witness_meets trial.now.strict trial.now.live.now marks.old.lits (substitution trial.now.subst.now) trial.now.groups.now ≡ meeting_of m) }
-    ensures room { marks.old.room ≤ marks.new.room }
+    requires left { HoldsLeft (subst_of trial.now) numbers.old trial.now.live.now }
+    ensures met { IfOk result (λ m. trial_meets trial.now trail.old.lits ≡ meeting_of m) }
+    ensures room { trail.old.room ≤ trail.new.room }
 {
-    if let Meet::Unmet(cause) = fit_groups(trial, marks, left)? {
+    if let Meet::Unmet(cause) = fit_groups(trial, trail, left)? {
         return Ok(Meet::Unmet(cause));
     }
-    meet_all(trial, numbers, marks, left)
+    meet_all(trial, numbers, trail, left)
 }
 
 /// Strict checking asks of each group that it is the first for its clause, and that the clause is live and needs it.
-fn fit_groups(trial: &Trial, marks: &mut Marks, left: &mut LitList) -> Result<Meet, NoMemory>
-    requires no_pair { has_pair marks.old.lits ≡ false }
+fn fit_groups(trial: &Trial, trail: &mut Trail, left: &mut LitList) -> Result<Meet, NoMemory>
+    requires no_pair { has_pair trail.old.lits ≡ false }
     requires index { IsIndex trial.now.index.now trial.now.live.now trial.now.groups.now }
-    ensures met { IfOk result (λ m. cond trial.now.strict (groups_fit trial.now.live.now marks.old.lits (substitution trial.now.subst.now) [] trial.now.groups.now) met ≡ meeting_of m) }
-    ensures lits { marks.new.lits ≡ marks.old.lits }
-    ensures room { marks.old.room ≤ marks.new.room }
+    ensures met { IfOk result (λ m. trial_fits trial.now trail.old.lits ≡ meeting_of m) }
+    ensures lits { trail.new.lits ≡ trail.old.lits }
+    ensures room { trail.old.room ≤ trail.new.room }
 {
     if !trial.strict {
         return Ok(Meet::Met);
     }
     for i in 0..trial.groups.len() {
-        let number = trial.groups.id(i);
-        let Some(lits) = trial.live.get(number) else {
-            return Ok(Meet::Unmet(Cause::GroupSpare(number)));
+        let id = trial.groups.id(i);
+        let Some(lits) = trial.live.get(id) else {
+            return Ok(Meet::Unmet(Cause::GroupSpare(id)));
         };
-        if trial.index.get(number) as usize != i + 1 {
-            return Ok(Meet::Unmet(Cause::GroupTwice(number)));
+        if trial.index.get(id) as usize != i + 1 {
+            return Ok(Meet::Unmet(Cause::GroupTwice(id)));
         }
-        if !needs(trial.subst, marks, left, lits)? {
-            return Ok(Meet::Unmet(Cause::GroupSpare(number)));
+        if !needs(trial.subst, trail, left, lits)? {
+            return Ok(Meet::Unmet(Cause::GroupSpare(id)));
         }
     }
     Ok(Meet::Met)
@@ -80,22 +82,22 @@ fn fit_groups(trial: &Trial, marks: &mut Marks, left: &mut LitList) -> Result<Me
 /// Whether a clause needs hints: it is touched and not satisfied, and what is left isn't refuted at once.
 fn needs(
     subst: &Subst,
-    marks: &mut Marks,
+    trail: &mut Trail,
     left: &mut LitList,
     lits: &[Lit],
 ) -> Result<bool, NoMemory>
-    requires no_pair { has_pair marks.old.lits ≡ false }
-    ensures value { IfOk result (λ b. b ≡ needs_hints marks.old.lits (reduction (substitution subst.now) lits.now)) }
-    ensures lits { marks.new.lits ≡ marks.old.lits }
-    ensures room { marks.old.room ≤ marks.new.room }
+    requires no_pair { has_pair trail.old.lits ≡ false }
+    ensures value { IfOk result (λ b. b ≡ needs_hints trail.old.lits (reduction (substitution subst.now) lits.now)) }
+    ensures lits { trail.new.lits ≡ trail.old.lits }
+    ensures room { trail.old.room ≤ trail.new.room }
 {
     if subst.reduce(lits, left)? != Reduced::Left {
         return Ok(false);
     }
-    let len = marks.len();
-    let assumed = assume(marks, left.as_slice());
-    let closes = marks.has_pair();
-    marks.cut(len);
+    let len = trail.len();
+    let assumed = assume(trail, left.as_slice());
+    let closes = trail.has_pair();
+    trail.truncate(len);
     assumed?;
     Ok(!closes)
 }
@@ -104,41 +106,41 @@ fn needs(
 /// one is found in rising order.
 fn meet_all(
     trial: &Trial,
-    numbers: &mut NumberSet,
-    marks: &mut Marks,
+    numbers: &mut IdSet,
+    trail: &mut Trail,
     left: &mut LitList,
 ) -> Result<Meet, NoMemory>
-    requires no_pair { has_pair marks.old.lits ≡ false }
-    requires room { CoversClauses marks.old.room (clauses trial.now.live.now) }
+    requires no_pair { has_pair trail.old.lits ≡ false }
+    requires room { CoversClauses trail.old.room (clauses trial.now.live.now) }
     requires index { IsIndex trial.now.index.now trial.now.live.now trial.now.groups.now }
     requires rising { AreRising trial.now.live.now }
-    requires left { HoldsLeft (substitution trial.now.subst.now) numbers.old trial.now.live.now }
-    ensures met { IfOk result (λ m. all_left_meet trial.now.strict trial.now.live.now marks.old.lits (substitution trial.now.subst.now) trial.now.groups.now trial.now.live.now ≡ meeting_of m) }
-    ensures room { marks.old.room ≤ marks.new.room }
+    requires left { HoldsLeft (subst_of trial.now) numbers.old trial.now.live.now }
+    ensures met { IfOk result (λ m. trial_meets_all trial.now trail.old.lits ≡ meeting_of m) }
+    ensures room { trail.old.room ≤ trail.new.room }
 {
-    if let Meet::Met = meet_each(trial, numbers.as_slice(), marks, left)? {
+    if let Meet::Met = meet_each(trial, numbers.as_slice(), trail, left)? {
         return Ok(Meet::Met);
     }
     numbers.sort();
-    meet_each(trial, numbers.as_slice(), marks, left)
+    meet_each(trial, numbers.as_slice(), trail, left)
 }
 
 /// How the clauses of numbers are met, in the order of the list.
 fn meet_each(
     trial: &Trial,
-    numbers: &[u32],
-    marks: &mut Marks,
+    ids: &[ClauseId],
+    trail: &mut Trail,
     left: &mut LitList,
 ) -> Result<Meet, NoMemory>
-    requires no_pair { has_pair marks.old.lits ≡ false }
-    requires room { CoversClauses marks.old.room (clauses trial.now.live.now) }
+    requires no_pair { has_pair trail.old.lits ≡ false }
+    requires room { CoversClauses trail.old.room (clauses trial.now.live.now) }
     requires index { IsIndex trial.now.index.now trial.now.live.now trial.now.groups.now }
-    ensures met { IfOk result (λ m. list_meets trial.now.strict trial.now.live.now marks.old.lits (substitution trial.now.subst.now) trial.now.groups.now numbers.now ≡ meeting_of m) }
-    ensures lits { marks.new.lits ≡ marks.old.lits }
-    ensures room { marks.old.room ≤ marks.new.room }
+    ensures met { IfOk result (λ m. trial_meets_list trial.now trail.old.lits ids.now ≡ meeting_of m) }
+    ensures lits { trail.new.lits ≡ trail.old.lits }
+    ensures room { trail.old.room ≤ trail.new.room }
 {
-    for number in numbers {
-        if let Meet::Unmet(cause) = meet_number(trial, marks, left, *number)? {
+    for id in ids {
+        if let Meet::Unmet(cause) = meet_number(trial, trail, left, *id)? {
             return Ok(Meet::Unmet(cause));
         }
     }
@@ -148,49 +150,49 @@ fn meet_each(
 /// How the clause of a number is met, if it is live.
 fn meet_number(
     trial: &Trial,
-    marks: &mut Marks,
+    trail: &mut Trail,
     left: &mut LitList,
-    number: u32,
+    id: ClauseId,
 ) -> Result<Meet, NoMemory>
-    requires no_pair { has_pair marks.old.lits ≡ false }
-    requires room { CoversClauses marks.old.room (clauses trial.now.live.now) }
+    requires no_pair { has_pair trail.old.lits ≡ false }
+    requires room { CoversClauses trail.old.room (clauses trial.now.live.now) }
     requires index { IsIndex trial.now.index.now trial.now.live.now trial.now.groups.now }
-    ensures met { IfOk result (λ m. number_meets trial.now.strict trial.now.live.now marks.old.lits (substitution trial.now.subst.now) trial.now.groups.now number ≡ meeting_of m) }
-    ensures lits { marks.new.lits ≡ marks.old.lits }
-    ensures room { marks.old.room ≤ marks.new.room }
+    ensures met { IfOk result (λ m. trial_meets_number trial.now trail.old.lits id ≡ meeting_of m) }
+    ensures lits { trail.new.lits ≡ trail.old.lits }
+    ensures room { trail.old.room ≤ trail.new.room }
 {
-    match trial.live.get(number) {
+    match trial.live.get(id) {
         None => Ok(Meet::Met),
-        Some(lits) => meet_one(trial, marks, left, number, lits),
+        Some(lits) => meet_one(trial, trail, left, id, lits),
     }
 }
 
 /// How one clause is met.
 fn meet_one(
     trial: &Trial,
-    marks: &mut Marks,
+    trail: &mut Trail,
     left: &mut LitList,
-    number: u32,
+    id: ClauseId,
     lits: &[Lit],
 ) -> Result<Meet, NoMemory>
-    requires no_pair { has_pair marks.old.lits ≡ false }
-    requires room { CoversClauses marks.old.room (clauses trial.now.live.now) }
+    requires no_pair { has_pair trail.old.lits ≡ false }
+    requires room { CoversClauses trail.old.room (clauses trial.now.live.now) }
     requires index { IsIndex trial.now.index.now trial.now.live.now trial.now.groups.now }
-    requires live { IsLive trial.now.live.now number }
-    ensures met { IfOk result (λ m. left_meets trial.now.strict trial.now.live.now marks.old.lits trial.now.groups.now number (reduction (substitution trial.now.subst.now) lits.now) ≡ meeting_of m) }
-    ensures lits { marks.new.lits ≡ marks.old.lits }
-    ensures room { marks.old.room ≤ marks.new.room }
+    requires live { IsLive trial.now.live.now id }
+    ensures met { IfOk result (λ m. trial_meets_clause trial.now trail.old.lits id lits.now ≡ meeting_of m) }
+    ensures lits { trail.new.lits ≡ trail.old.lits }
+    ensures room { trail.old.room ≤ trail.new.room }
 {
     if trial.subst.reduce(lits, left)? != Reduced::Left {
         return Ok(Meet::Met);
     }
-    let hints = hints_for(trial.index, trial.groups, number);
-    let len = marks.len();
-    let end = refute(trial.strict, trial.live, marks, left.as_slice(), hints);
-    marks.cut(len);
+    let hints = hints_for(trial.index, trial.groups, id);
+    let len = trail.len();
+    let end = refute(trial.strict, trial.live, trail, left.as_slice(), hints);
+    trail.truncate(len);
     match end? {
         End::Closed => Ok(Meet::Met),
-        End::Unclosed => Ok(Meet::Unmet(Cause::GroupUnclosed(number))),
+        End::Unclosed => Ok(Meet::Unmet(Cause::GroupUnclosed(id))),
         End::Faulty(cause) => Ok(Meet::Unmet(cause)),
     }
 }

@@ -1,6 +1,7 @@
 pub mod WordsLemmas
 pub mod Taking
 pub mod Standing
-pub mod Calls
 pub mod Judging
+pub mod Opening
+pub mod Refuted
 pub mod Printing

@@ -1,48 +1,51 @@
 -- Where judging stands, from item to item.
-use Rattle.sr_cli.specs.Files.{outcome_by}
-use Rattle.sr_wit.specs.declared.fault.InFault.{InFault}
-use Rattle.std.proofs.Common.{◌≡◌, ◌∙◌, ℕ, ◌+◌, Bool, true, false, cond, List, [], ◌∷◌, ◌++◌, Option, Some, None, Ok, refl, sym, ap, subst, arith, Err}
+use Rattle.std.proofs.Common.{◌≡◌, ◌∙◌, ◌⊎◌, inl, inr, ℕ, ◌+◌, Bool, true, false, cond, List, [], ◌∷◌, ◌++◌, Option, Some, None, Ok, Err, refl, sym, ap, subst, arith}
+use Rattle.std.specs.Prelude.{Result}
 use Rattle.std.proofs.lemmas.List.Sums.{sum_by-append}
 use Rattle.sr_base.specs.Literal.{Literal}
 use Rattle.sr_base.specs.Limits.{LimitValues}
+use Rattle.sr_base.specs.Contents.{Contents}
 use Rattle.sr_base.specs.declared.names.Form.{Form}
 use Rattle.sr_base.specs.declared.names.Which.TheVariants as which
 use Rattle.sr_base.specs.declared.names.LimitKind.TheVariants.{Cells}
-use Rattle.sr_model.specs.Texts.{Texts}
+use Rattle.sr_base.specs.declared.names.InputError.{InputError}
+use Rattle.sr_base.specs.declared.names.InputError.TheVariants as fault
+use Rattle.sr_model.specs.Tokens.{Tokens}
+use Rattle.sr_model.specs.Reading.{Read, reads}
 use Rattle.sr_model.specs.Refutation.{has_empty}
 use Rattle.sr_model.specs.Meeting.{Meeting, met, unmet}
-use Rattle.sr_model.specs.Judging.{Item, Live, first_live, live_with, live_after, item_meets, ends_proof, verdict_of, judge, start, ItemHasPivot, HavePivots}
-use Rattle.sr_model.specs.declared.verdict.Verdict.TheVariants.{Going, Verified}
-use Rattle.sr_model.specs.Lsr as lsr
-use Rattle.sr_wit.specs.declared.fault.InFault.TheVariants as fault
-use Rattle.sr_model.specs.Lsr.{item}
+use Rattle.sr_model.specs.Judging.{Item, Live, first_live, live_with, live_after, item_meets, ends_proof, verdict_of, judge, start}
+use Rattle.sr_model.specs.Lsr.{MaybeItem}
 use Rattle.sr_model.specs.LsrBinary.{item_in, SpellItemsIn}
+use Rattle.sr_model.specs.declared.verdict.Verdict.TheVariants.{Going}
 use Rattle.sr_model.proofs.Taken.{going_append, going_has_no_empty, judge_going}
-use Rattle.sr_model.proofs.Judged.{verified_unsat}
+use Rattle.sr_desk.specs.Outside.{Outside, Agrees}
+use Rattle.sr_desk.specs.Reader.{Reader}
+use Rattle.sr_desk.specs.Next.{Reads, ForContents}
+use Rattle.sr_scan.specs.Left.{tokens_left, Gives}
 use Rattle.sr_check.specs.Checking.{Checking}
 use Rattle.sr_wit.specs.LsrItems.{item_of}
 use Rattle.sr_wit.specs.declared.item.LsrItem.{LsrItem}
-use Rattle.sr_lsr.specs.Reads.{GivesItem, StopsItem}
-use Rattle.sr_base.specs.declared.names.Which.{Which}
+use Rattle.sr_lsr.specs.Reads.{item_told}
 use Rattle.sr_emit.specs.declared.counts.Counts.{Counts}
 use Rattle.sr_emit.specs.declared.outcome.Outcome.{Outcome}
 use Rattle.sr_emit.specs.declared.outcome.Outcome.TheVariants as outcome
-use Rattle.sr_cli.specs.Check.{grows_past, CellsFit, by_item, by_meeting, item_steps, item_hints, steps_of, hints_of, counts_of, EndsAt, is_answer}
-use Rattle.sr_cli.specs.Runs.{Stands, Tallies, Takes, Judges, counts_by}
+use Rattle.sr_cli.specs.Files.{outcome_by}
+use Rattle.sr_cli.specs.Check.{grows_past, CellsFit, by_item, by_meeting, counted, item_steps, item_hints, steps_of, hints_of, counts_of, EndsAt, ByProof}
+use Rattle.sr_cli.specs.Runs.{Progress, Tallies, Takes, Judges, counts_by}
 use Rattle.sr_cli.specs.declared.proof.Tally.{Tally}
 
 -- before the first item
-pub stands_first : (lim : LimitValues) (form : Form) (strict : Bool) (f : List (List Literal)) (start' : Option Texts) (c : Checking) → has_empty f ≡ false
-    → c ≡ record { strict = strict; most = lim.cells; state = start f; used = c.used } → Stands lim form strict f start' start' c (record { steps = 0; hints = 0 })
-stands_first lim form strict f start' c full fresh = record {
+pub progress_first : (lim : LimitValues) (form : Form) (strict : Bool) (f : List (List Literal)) (first : Reader) (o : Outside) (c : Checking) → has_empty f ≡ false
+    → c ≡ record { strict = strict; most = lim.cells; state = start f; used = c.used } → Progress lim form strict f first first o c (record { steps = 0; hints = 0 })
+progress_first lim form strict f first o c full fresh = record {
   items = [];
-  pivots = tt;
   going = rw full refl;
   fits = tt;
   checker = fresh ∙ rw full refl;
   steps = refl;
   hints = refl;
-  spelled = λ all h. (all, h, refl);
+  spelled = λ d a. refl;
 }
 
 -- an item at which judging goes on
@@ -67,161 +70,120 @@ live_append : (lv : Live) (items : List Item) (it : Item) → live_after lv (ite
 live_append lv [] it = refl
 live_append lv (x ∷ items) it = live_append (live_with lv x) items it
 
-pivots_append : (items : List Item) (it : Item) → HavePivots items → ItemHasPivot it → HavePivots (items ++ it ∷ [])
-pivots_append [] it h p = (p, tt)
-pivots_append (x ∷ items) it h p = (h.0, pivots_append items it h.1 p)
-
 fits_append : (most : ℕ) (lv : Live) (items : List Item) (it : Item) → CellsFit most lv items → grows_past most (live_after lv items) it ≡ false → CellsFit most lv (items ++ it ∷ [])
 fits_append most lv [] it h g = (g, tt)
 fits_append most lv (x ∷ items) it h g = (h.0, fits_append most (live_with lv x) items it h.1 g)
 
-spell_append : (form : Form) (lim : LimitValues) (all mid rest : Texts) (items : List Item) (it : Item) → SpellItemsIn form lim all items mid → item_in form lim mid ≡ item it rest → SpellItemsIn form lim all (items ++ it ∷ []) rest
+spell_append : (form : Form) (lim : LimitValues) (all mid rest : Tokens) (items : List Item) (it : Item) → SpellItemsIn form lim all items mid
+    → item_in form lim mid ≡ reads (Some it) rest → SpellItemsIn form lim all (items ++ it ∷ []) rest
 spell_append form lim all mid rest [] it s e = (rest, ap (item_in form lim) s ∙ e, refl)
 spell_append form lim all mid rest (x ∷ items) it s e = (s.0, s.1, spell_append form lim s.0 mid rest items it s.2 e)
 
-judged_append : (strict : Bool) (f : List (List Literal)) (items : List Item) (it : Item) → judge strict f items ≡ Going
+pub judged_append : (strict : Bool) (f : List (List Literal)) (items : List Item) (it : Item) → judge strict f items ≡ Going
     → judge strict f (items ++ it ∷ []) ≡ verdict_of it (item_meets strict (live_after (first_live f) items) it) Going
 judged_append strict f items it e =
     let n = going_has_no_empty strict f items e in
     judge_going strict f (items ++ it ∷ []) n ∙ going_append strict (first_live f) items (it ∷ []) (sym (judge_going strict f items n) ∙ e)
 
--- after one more item
-pub stands_more : (lim : LimitValues) (form : Form) (strict : Bool) (f : List (List Literal)) (start' now new : Option Texts) (c c' : Checking) (t u : Tally) (x : LsrItem)
-    → Stands lim form strict f start' now c t → GivesItem form lim now new (Ok (Some x)) → ItemHasPivot (item_of x) → Takes c c' t u (item_of x) None → Stands lim form strict f start' new c' u
-stands_more lim form strict f start' now new c c' t u x s gives pivot takes =
-    let it : Item = item_of x in
-    let lv : Live = live_after (first_live f) s.items in
-    let none : by_item lim.cells strict lv it ≡ None = subst (λ (k : Checking). by_item k.most k.strict k.state.live it ≡ None) s.checker takes.0 in
-    let g : GoesOn lim.cells strict lv it = goes_on lim.cells strict lv it none in
-    record {
-      items = s.items ++ it ∷ [];
-      pivots = pivots_append s.items it s.pivots pivot;
-      going = judged_append strict f s.items it s.going ∙ rw (g.is_met, g.is_open) refl;
-      fits = fits_append lim.cells (first_live f) s.items it s.fits g.fits;
-      checker = takes.1 ∙ ap (λ (k : Checking). record k { state = record { live = live_with k.state.live it; verdict = Going }; used = c'.used }) s.checker
-          ∙ ap (λ (l : Live). record { strict = strict; most = lim.cells; state = record { live = l; verdict = Going }; used = c'.used }) (sym (live_append (first_live f) s.items it));
-      steps = takes.2.0 ∙ ap (λ n. n + item_steps it) s.steps ∙ steps_push s.items it;
-      hints = takes.2.1 ∙ ap (λ n. n + item_hints it) s.hints ∙ hints_push s.items it;
-      spelled = λ all h.
-          let r = s.spelled all h in
-          let i = gives r.0 r.1 in
-          (i.0, i.1, spell_append form lim all r.0 i.0 s.items it r.2 i.2);
-    }
-  where
-    steps_push : (items : List Item) (it : Item) → steps_of items + item_steps it ≡ steps_of (items ++ it ∷ [])
-    steps_push items it = omega (arith, sum_by-append item_steps items (it ∷ []))
+counted_more : (a b c d n : ℕ) → a ≡ counted b → c ≡ counted (a + d) → n ≡ b + d → c ≡ counted n
+counted_more a b c d n x y z = omega arith
 
-    hints_push : (items : List Item) (it : Item) → hints_of items + item_hints it ≡ hints_of (items ++ it ∷ [])
-    hints_push items it = omega (arith, sum_by-append item_hints items (it ∷ []))
+more_steps : (items : List Item) (it : Item) → steps_of (items ++ it ∷ []) ≡ steps_of items + item_steps it
+more_steps items it = omega (arith, sum_by-append item_steps items (it ∷ []))
 
-is_verified : Outcome → Bool
-is_verified (outcome.Verified made core) = true
-is_verified o = false
+more_hints : (items : List Item) (it : Item) → hints_of (items ++ it ∷ []) ≡ hints_of items + item_hints it
+more_hints items it = omega (arith, sum_by-append item_hints items (it ∷ []))
 
--- what follows the items decides
-ends_by : (lim : LimitValues) (form : Form) (strict : Bool) (f : List (List Literal)) (items : List Item) (it : Item) (rest : Texts) (mid : Texts) (o : Outcome) (t u : Tally)
-    → item_in form lim mid ≡ item it rest → by_item lim.cells strict (live_after (first_live f) items) it ≡ Some o
-    → (o ≡ outcome.Verified None None → counts_by f u ≡ counts_of f (items ++ it ∷ [])) → EndsAt lim strict f items (item_in form lim mid) o (counts_by f u)
-ends_by lim form strict f items it rest mid o t u e b k = subst (λ r. EndsAt lim strict f items r o (counts_by f u)) (sym e) (b, k)
+-- contents that agree after a call agreed before it
+agreed : {a b : Reader} {o p : Outside} {x : Bool} (c : Contents) → Reads a b o p x → Agrees (p.slot b.slot) c → Agrees (o.slot a.slot) c
+agreed {a} {b} {o} {p} c r h = r.agrees c (subst (λ (n : ℕ). Agrees (p.slot n) c) r.same.slot h)
 
-verified_item : (most : ℕ) (strict : Bool) (lv : Live) (it : Item) → by_item most strict lv it ≡ Some (outcome.Verified None None) → verdict_of it (item_meets strict lv it) Going ≡ Verified
-verified_item most strict lv it e = at (item_meets strict lv it) e
-  where
-    at : (m : Meeting) → by_meeting most lv it m ≡ Some (outcome.Verified None None) → verdict_of it m Going ≡ Verified
-    at (unmet x) e = absurd cc
-    at met e = go (ends_proof it) refl (grows_past most lv it) refl
-      where
-        go : (x : Bool) → ends_proof it ≡ x → (y : Bool) → grows_past most lv it ≡ y → cond (ends_proof it) Verified Going ≡ Verified
-        go true x y z = rw x refl
-        go false x true z = let bad : Some (outcome.Limit which.Proof Cells None None) ≡ Some (outcome.Verified None None) = rw (x, z) at e in absurd cc
-        go false x false z = let bad = rw (x, z) at e in absurd cc
+-- and those of the first reader's slot are those of the last one's
+agrees_on : {a b : Reader} {o p : Outside} {x : Bool} (c : Contents) → Reads a b o p x → Agrees (p.slot a.slot) c → Agrees (p.slot b.slot) c
+agrees_on {a} {b} {o} {p} c r h = subst (λ (n : ℕ). Agrees (p.slot n) c) (sym r.same.slot) h
 
--- at an item with which judging ends
-pub stands_ends : (lim : LimitValues) (form : Form) (strict : Bool) (f : List (List Literal)) (start' now new : Option Texts) (c : Checking) (t u : Tally) (x : LsrItem) (o : Outcome)
-    → Stands lim form strict f start' now c t → GivesItem form lim now new (Ok (Some x)) → ItemHasPivot (item_of x)
-    → by_item c.most c.strict c.state.live (item_of x) ≡ Some o → (o ≡ outcome.Verified None None → Tallies t (item_of x) (Some u)) → Judges lim form strict f start' o u
-stands_ends lim form strict f start' now new c t u x o s gives pivot by counted =
-    let it : Item = item_of x in
-    let lv : Live = live_after (first_live f) s.items in
-    let here : by_item lim.cells strict lv it ≡ Some o = subst (λ (k : Checking). by_item k.most k.strict k.state.live it ≡ Some o) s.checker by in
-    record {
-      answer = λ is all h.
-          let r = s.spelled all h in
-          let i = gives r.0 r.1 in
+module _ (lim : LimitValues) (form : Form) (strict : Bool) (f : List (List Literal)) (first now new : Reader) (o p : Outside) (c : Checking) (t : Tally) where
+  -- what the next item is, whatever the rest of the file
+  abbrev IsNext : Result (Option LsrItem) InputError → Type 0
+  IsNext result = ForContents new p (λ d. Gives (item_in form lim (tokens_left form 2 0 now d)) (tokens_left form 2 0 new d) (item_told result))
+
+  -- after one more item
+  pub progress_more : (c' : Checking) (u : Tally) (x : LsrItem) → Progress lim form strict f first now o c t → Reads now new o p false → IsNext (Ok (Some x))
+      → Takes c c' t u (item_of x) None → Progress lim form strict f first new p c' u
+  progress_more c' u x s r gives takes =
+      let it : Item = item_of x in
+      let lv : Live = live_after (first_live f) s.items in
+      let none : by_item lim.cells strict lv it ≡ None = subst (λ (k : Checking). by_item k.most k.strict k.state.live it ≡ None) s.checker takes.0 in
+      let g : GoesOn lim.cells strict lv it = goes_on lim.cells strict lv it none in
+      record {
+        items = s.items ++ it ∷ [];
+        going = judged_append strict f s.items it s.going ∙ rw (g.is_met, g.is_open) refl;
+        fits = fits_append lim.cells (first_live f) s.items it s.fits g.fits;
+        checker = takes.1 ∙ ap (λ (k : Checking). record k { state = record { live = live_with k.state.live it; verdict = Going }; used = c'.used }) s.checker
+            ∙ ap (λ (l : Live). record { strict = strict; most = lim.cells; state = record { live = l; verdict = Going }; used = c'.used }) (sym (live_append (first_live f) s.items it));
+        steps = counted_more t.steps (steps_of s.items) u.steps (item_steps it) _ s.steps takes.2.steps (more_steps s.items it);
+        hints = counted_more t.hints (hints_of s.items) u.hints (item_hints it) _ s.hints takes.2.hints (more_hints s.items it);
+        spelled = λ d a. spell_append form lim (tokens_left form 2 0 first d) (tokens_left form 2 0 now d) (tokens_left form 2 0 new d) s.items it (s.spelled d (agreed d r a)) (gives d a);
+      }
+
+  -- what follows the items decides
+  decided : (result : Result (Option LsrItem) InputError) (q : Outside) (x : Bool) (k : Tally) (out : Outcome) (s : Progress lim form strict f first now o c t)
+      → Reads first now q o false → Reads now new o p x → IsNext result
+      → ((read : Read MaybeItem) (rest : Tokens) → Gives read rest (item_told result) → EndsAt lim strict f s.items read out (counts_by f k)) → Judges lim form strict f first p out k
+  decided result q x k out s whole r gives ends = inr judged
+    where
+      judged : (d : Contents) → Agrees (p.slot first.slot) d → ByProof lim form strict f (tokens_left form 2 0 first d) out (counts_by f k)
+      judged d a =
+          let same : new.slot ≡ first.slot = r.same.slot ∙ whole.same.slot in
+          let after : Agrees (p.slot new.slot) d = subst (λ (n : ℕ). Agrees (p.slot n) d) (sym same) a in
           record {
             items = s.items;
-            rest = r.0;
-            spelled = r.2;
+            rest = tokens_left form 2 0 now d;
+            spelled = s.spelled d (agreed d r after);
             going = s.going;
             fits = s.fits;
-            ends = ends_by lim form strict f s.items it i.0 r.0 o t u i.2 here (λ v. counts (counted v));
-          };
-      sound = λ v.
-          let judged : judge strict f (s.items ++ it ∷ []) ≡ Verified = judged_append strict f s.items it s.going ∙ verified_item lim.cells strict lv it (here ∙ ap Some v) in
-          verified_unsat strict f (s.items ++ it ∷ []) (pivots_append s.items it s.pivots pivot) judged;
-    }
-  where
-    counts : Tallies t (item_of x) (Some u) → counts_by f u ≡ counts_of f (s.items ++ item_of x ∷ [])
-    counts k =
-        let steps : u.steps ≡ steps_of (s.items ++ item_of x ∷ []) = k.0 ∙ ap (λ n. n + item_steps (item_of x)) s.steps ∙ omega (arith, sum_by-append item_steps s.items (item_of x ∷ [])) in
-        let hints : u.hints ≡ hints_of (s.items ++ item_of x ∷ []) = k.1 ∙ ap (λ n. n + item_hints (item_of x)) s.hints ∙ omega (arith, sum_by-append item_hints s.items (item_of x ∷ [])) in
-        rw (steps, hints) refl
+            ends = ends (item_in form lim (tokens_left form 2 0 now d)) (tokens_left form 2 0 new d) (gives d after);
+          }
 
--- the same, from what `take_item` says; want of memory judges nothing
-pub stands_judged : (lim : LimitValues) (form : Form) (strict : Bool) (f : List (List Literal)) (start' now new : Option Texts) (c c' : Checking) (t u : Tally) (x : LsrItem) (o : Outcome)
-    → Stands lim form strict f start' now c t → GivesItem form lim now new (Ok (Some x)) → ItemHasPivot (item_of x) → Takes c c' t u (item_of x) (Some o) → Judges lim form strict f start' o u
-stands_judged lim form strict f start' now new c c' t u x (outcome.Verified made core) s gives pivot k = stands_ends lim form strict f start' now new c t u x (outcome.Verified made core) s gives pivot k.0 k.1
-stands_judged lim form strict f start' now new c c' t u x (outcome.RejectedStep id y) s gives pivot k = stands_ends lim form strict f start' now new c t u x (outcome.RejectedStep id y) s gives pivot k.0 k.1
-stands_judged lim form strict f start' now new c c' t u x outcome.NoEmptyClause s gives pivot k = stands_ends lim form strict f start' now new c t u x outcome.NoEmptyClause s gives pivot k.0 k.1
-stands_judged lim form strict f start' now new c c' t u x (outcome.Usage y) s gives pivot k = stands_ends lim form strict f start' now new c t u x (outcome.Usage y) s gives pivot k.0 k.1
-stands_judged lim form strict f start' now new c c' t u x (outcome.Text w y z) s gives pivot k = stands_ends lim form strict f start' now new c t u x (outcome.Text w y z) s gives pivot k.0 k.1
-stands_judged lim form strict f start' now new c c' t u x (outcome.Limit w y made core) s gives pivot k = stands_ends lim form strict f start' now new c t u x (outcome.Limit w y made core) s gives pivot k.0 k.1
-stands_judged lim form strict f start' now new c c' t u x (outcome.SourceFault w) s gives pivot k = stands_ends lim form strict f start' now new c t u x (outcome.SourceFault w) s gives pivot k.0 k.1
-stands_judged lim form strict f start' now new c c' t u x (outcome.SinkFault w made core) s gives pivot k = stands_ends lim form strict f start' now new c t u x (outcome.SinkFault w made core) s gives pivot k.0 k.1
-stands_judged lim form strict f start' now new c c' t u x outcome.NoMemory s gives pivot k = record { answer = λ is. absurd cc; sound = λ v. absurd cc }
+  -- at an item with which judging ends
+  ended : (q : Outside) (x : LsrItem) (u : Tally) (out : Outcome) → Progress lim form strict f first now o c t → Reads first now q o false → Reads now new o p false → IsNext (Ok (Some x))
+      → by_item c.most c.strict c.state.live (item_of x) ≡ Some out → (out ≡ outcome.Verified → Tallies t (item_of x) u) → Judges lim form strict f first p out u
+  ended q x u out s whole r gives by tallied =
+      let it : Item = item_of x in
+      let lv : Live = live_after (first_live f) s.items in
+      let here : by_item lim.cells strict lv it ≡ Some out = subst (λ (k : Checking). by_item k.most k.strict k.state.live it ≡ Some out) s.checker by in
+      decided (Ok (Some x)) q false u out s whole r gives (λ read rest e.
+      subst (λ (z : Read MaybeItem). EndsAt lim strict f s.items z out (counts_by f u)) (sym e) (here, λ v. counts (tallied v)))
+    where
+      counts : Tallies t (item_of x) u → counts_by f u ≡ counts_of f (s.items ++ item_of x ∷ [])
+      counts k =
+          let steps : u.steps ≡ counted (steps_of (s.items ++ item_of x ∷ [])) = counted_more t.steps (steps_of s.items) u.steps (item_steps (item_of x)) _ s.steps k.steps (more_steps s.items (item_of x)) in
+          let hints : u.hints ≡ counted (hints_of (s.items ++ item_of x ∷ [])) = counted_more t.hints (hints_of s.items) u.hints (item_hints (item_of x)) _ s.hints k.hints (more_hints s.items (item_of x)) in
+          rw (steps, hints) refl
 
--- where no item is read
-ends_fault : (lim : LimitValues) (strict : Bool) (f : List (List Literal)) (items : List Item) (r : lsr.ItemRead) (e : InFault) (k : Counts)
-    → StopsItem e r → is_answer (outcome_by which.Proof e) ≡ true → EndsAt lim strict f items r (outcome_by which.Proof e) k
-ends_fault lim strict f items r (fault.Text kind place) k is a = rw is refl
-ends_fault lim strict f items r (fault.Limit kind) k is a = rw is refl
-ends_fault lim strict f items r fault.Source k is a = absurd cc
-ends_fault lim strict f items r fault.NoMemory k is a = absurd cc
+  -- the same, from what `take_item` says; out of memory judges nothing
+  pub progress_ends : (q : Outside) (x : LsrItem) (c' : Checking) (u : Tally) (out : Outcome) → Progress lim form strict f first now o c t → Reads first now q o false → Reads now new o p false
+      → IsNext (Ok (Some x)) → Takes c c' t u (item_of x) (Some out) → Judges lim form strict f first p out u
+  progress_ends q x c' u outcome.Verified s w r g k = ended q x u outcome.Verified s w r g k.0 k.1
+  progress_ends q x c' u (outcome.RejectedStep id y) s w r g k = ended q x u (outcome.RejectedStep id y) s w r g k.0 k.1
+  progress_ends q x c' u (outcome.RejectedLemma l y) s w r g k = ended q x u (outcome.RejectedLemma l y) s w r g k.0 k.1
+  progress_ends q x c' u outcome.NoEmptyClause s w r g k = ended q x u outcome.NoEmptyClause s w r g k.0 k.1
+  progress_ends q x c' u (outcome.Usage y) s w r g k = ended q x u (outcome.Usage y) s w r g k.0 k.1
+  progress_ends q x c' u (outcome.Text v y z) s w r g k = ended q x u (outcome.Text v y z) s w r g k.0 k.1
+  progress_ends q x c' u (outcome.Limit v y) s w r g k = ended q x u (outcome.Limit v y) s w r g k.0 k.1
+  progress_ends q x c' u (outcome.SourceFault v) s w r g k = ended q x u (outcome.SourceFault v) s w r g k.0 k.1
+  progress_ends q x c' u (outcome.SinkFault v) s w r g k = ended q x u (outcome.SinkFault v) s w r g k.0 k.1
+  progress_ends q x c' u outcome.NoMemory s w r g k = inl refl
 
-never_verified : (w : Which) (e : InFault) → outcome_by w e ≡ outcome.Verified None None → ⊥
-never_verified w (fault.Text kind place) v = cc
-never_verified w (fault.Limit kind) v = cc
-never_verified w fault.Source v = cc
-never_verified w fault.NoMemory v = cc
+  -- where no item is read
+  pub progress_fault : (q : Outside) (x : Bool) (e : InputError) → Progress lim form strict f first now o c t → Reads first now q o false → Reads now new o p x → IsNext (Err e)
+      → Judges lim form strict f first p (outcome_by which.Proof e) t
+  progress_fault q x (fault.Text kind place) s w r g = decided (Err (fault.Text kind place)) q x t _ s w r g (λ read rest e. rw e refl)
+  progress_fault q x (fault.Limit kind) s w r g = decided (Err (fault.Limit kind)) q x t _ s w r g (λ read rest e. rw e refl)
+  progress_fault q x fault.Source s w r g = decided (Err fault.Source) q x t _ s w r g (λ read rest e. rw e refl)
+  progress_fault q x fault.NoMemory s w r g = inl refl
 
-pub stands_fault : (lim : LimitValues) (form : Form) (strict : Bool) (f : List (List Literal)) (start' now new : Option Texts) (c : Checking) (t : Tally) (e : InFault)
-    → Stands lim form strict f start' now c t → GivesItem form lim now new (Err e) → Judges lim form strict f start' (outcome_by which.Proof e) t
-stands_fault lim form strict f start' now new c t e s gives = record {
-  answer = λ is all h.
-      let r = s.spelled all h in
-      record {
-        items = s.items;
-        rest = r.0;
-        spelled = r.2;
-        going = s.going;
-        fits = s.fits;
-        ends = ends_fault lim strict f s.items (item_in form lim r.0) e (counts_by f t) (gives r.0 r.1) is;
-      };
-  sound = λ v. absurd (never_verified which.Proof e v);
-}
-
-pub stands_none : (lim : LimitValues) (form : Form) (strict : Bool) (f : List (List Literal)) (start' now new : Option Texts) (c : Checking) (t : Tally)
-    → Stands lim form strict f start' now c t → GivesItem form lim now new (Ok None) → Judges lim form strict f start' outcome.NoEmptyClause t
-stands_none lim form strict f start' now new c t s gives = record {
-  answer = λ is all h.
-      let r = s.spelled all h in
-      record {
-        items = s.items;
-        rest = r.0;
-        spelled = r.2;
-        going = s.going;
-        fits = s.fits;
-        ends = subst (λ x. EndsAt lim strict f s.items x outcome.NoEmptyClause (counts_by f t)) (sym (gives r.0 r.1)) refl;
-      };
-  sound = λ v. absurd cc;
-}
+  -- where the proof ends
+  pub progress_none : (q : Outside) → Progress lim form strict f first now o c t → Reads first now q o false → Reads now new o p false → IsNext (Ok None)
+      → Judges lim form strict f first p outcome.NoEmptyClause t
+  progress_none q s w r g = decided (Ok None) q false t outcome.NoEmptyClause s w r g (λ read rest e. rw e refl)

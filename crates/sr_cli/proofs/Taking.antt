@@ -35,14 +35,14 @@ taken_going c it v p = go (item_meets c.strict c.state.live it) v (sym (passes_i
         at false e true h = let bad : true ≡ false = rw h at p in absurd cc
         at false e false h = (rw (e, h) refl, rw e refl)
 
-pub taken_verified : (c : Checking) (it : Item) → (after_item c.strict c.state it).verdict ≡ Verified → by_item c.most c.strict c.state.live it ≡ Some (outcome.Verified None None)
+pub taken_verified : (c : Checking) (it : Item) → (after_item c.strict c.state it).verdict ≡ Verified → by_item c.most c.strict c.state.live it ≡ Some outcome.Verified
 taken_verified c it v = go (item_meets c.strict c.state.live it) v
   where
-    go : (m : Meeting) → (after_meeting c.state it m).verdict ≡ Verified → by_meeting c.most c.state.live it m ≡ Some (outcome.Verified None None)
+    go : (m : Meeting) → (after_meeting c.state it m).verdict ≡ Verified → by_meeting c.most c.state.live it m ≡ Some outcome.Verified
     go (unmet x) v = absurd cc
     go met v = at (ends_proof it) refl
       where
-        at : (e : Bool) → ends_proof it ≡ e → by_meeting c.most c.state.live it met ≡ Some (outcome.Verified None None)
+        at : (e : Bool) → ends_proof it ≡ e → by_meeting c.most c.state.live it met ≡ Some outcome.Verified
         at true e = rw e refl
         at false e = let bad : Going ≡ Verified = rw e at v in absurd cc
 
@@ -65,9 +65,9 @@ grown_not_last most lv (stepped s) h = at (is_empty s.clause) refl
     at true e = let bad : false ≡ true = rw e at h in absurd cc
     at false e = e
 
-pub taken_past : (c : Checking) (it : Item) → passes_cells c it ≡ true → by_item c.most c.strict c.state.live it ≡ Some (outcome.Limit which.Proof Cells None None)
+pub taken_past : (c : Checking) (it : Item) → passes_cells c it ≡ true → by_item c.most c.strict c.state.live it ≡ Some (outcome.Limit which.Proof Cells)
 taken_past c it p = go (item_meets c.strict c.state.live it) (sym (passes_is c it) ∙ p)
   where
-    go : (m : Meeting) → (is_met m && grows_past c.most c.state.live it) ≡ true → by_meeting c.most c.state.live it m ≡ Some (outcome.Limit which.Proof Cells None None)
+    go : (m : Meeting) → (is_met m && grows_past c.most c.state.live it) ≡ true → by_meeting c.most c.state.live it m ≡ Some (outcome.Limit which.Proof Cells)
     go (unmet x) p = absurd cc
     go met p = rw (grown_not_last c.most c.state.live it p, p) refl

@@ -7,8 +7,8 @@ use Rattle.clap.proofs.OnLiterals.{clap_on_literals}
 use Rattle.sr_cli.specs.Commands.{check_app}
 use Rattle.clap.specs.Simple.{built}
 use Rattle.clap.specs.Faults.{is_free_app}
-use Rattle.sr_cli.specs.declared.words.WordsStop.{WordsStop}
-use Rattle.sr_cli.specs.declared.words.WordsStop.TheVariants.{Refused, NoMemory}
+use Rattle.sr_cli.specs.declared.words.WordsError.{WordsError}
+use Rattle.sr_cli.specs.declared.words.WordsError.TheVariants.{Refused, NoMemory}
 use Rattle.sr_cli.specs.Words.{said_by, said_where, check_said, Matches, Says}
 
 pub is_simple-check : is_simple_and_free check_app ≡ true
@@ -42,7 +42,7 @@ said_taken a words rows e f m =
     said_where-some (fault_of check_app words) (matches_of check_app words) (ap (λ (x : App). fault_of x words) (sym e) ∙ f)
     ∙ ap said_by (ap (λ (x : App). matches_of x words) (sym e) ∙ sym m)
 
-pub said_refused : (a : App) (words : List Text) (stop : WordsStop) → a ≡ check_app
+pub said_refused : (a : App) (words : List Text) (stop : WordsError) → a ≡ check_app
     → Matches (fault_of a words) (matches_of a words) (Err stop) → Says (check_said words) (Err stop)
 said_refused a words (Refused kind) e m =
     (said_where-none (fault_of check_app words) (matches_of check_app words) (λ f. m.0 (ap (λ (x : App). fault_of x words) e ∙ f)), m.1)

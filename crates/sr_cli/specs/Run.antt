@@ -1,18 +1,25 @@
 -- What a run does and answers, from its words to what it leaves.
-use Rattle.std.specs.Prelude.{◌≡◌, ◌⊎◌, ℕ, ◌≤◌, ◌<◌, true, List, Option, Some, None, if◌then◌else◌}
+use Rattle.std.specs.Prelude.{◌≡◌, ◌≢◌, ◌⊎◌, ℕ, ◌≤◌, ◌<◌, true, List, [], ◌∷◌, ◌++◌, Option, Some, None, codes, if◌then◌else◌}
 use Rattle.sr_base.specs.Limits.{LimitValues}
+use Rattle.sr_base.specs.Contents.{Contents}
 use Rattle.sr_base.specs.declared.names.Which.TheVariants as which
-use Rattle.sr_desk.specs.Outside.{Outside, Rose, SameElsewhere}
-use Rattle.sr_desk.specs.Calls.{Grows, GrowsByFront}
-use Rattle.sr_emit.specs.Report.{report}
+use Rattle.sr_model.specs.Assignment.{Unsat}
+use Rattle.sr_model.specs.Tokens.{Tokens}
+use Rattle.sr_model.specs.TextTokens.{spelled}
+use Rattle.sr_model.specs.Dimacs.{Formula}
+use Rattle.sr_model.specs.Formulas.{SpellsFormula}
+use Rattle.sr_desk.specs.Outside.{Outside, Agrees, Rose, SameElsewhere}
+use Rattle.sr_desk.specs.Calls.{Sends, SendsPrefix}
+use Rattle.sr_emit.specs.Status.{is_verified}
+use Rattle.sr_emit.specs.Report.{report, verified_line}
 use Rattle.sr_emit.specs.declared.report.Command.{Command}
 use Rattle.sr_emit.specs.declared.report.Command.TheVariants as command
 use Rattle.sr_emit.specs.declared.outcome.Outcome.{Outcome}
 use Rattle.sr_emit.specs.declared.outcome.Outcome.TheVariants as outcome
 use Rattle.sr_emit.specs.declared.counts.Counts.{Counts}
 use Rattle.sr_cli.specs.Words.{Asked, refused, checks}
-use Rattle.sr_cli.specs.Files.{text_of, proof_of}
-use Rattle.sr_cli.specs.Check.{Answers, VerifiedHasNoSolution, is_answer}
+use Rattle.sr_cli.specs.Files.{GivesFile, HasReadCause}
+use Rattle.sr_cli.specs.Check.{IsFirst}
 
 -- standard output has the slot 8; nothing else changed
 pub record OnlyPrints (old new : Outside) : Type 0 where
@@ -21,31 +28,31 @@ pub record OnlyPrints (old new : Outside) : Type 0 where
   pub elsewhere : SameElsewhere 8 old new
   pub later : (old.slot 8).faults ≤ (new.slot 8).faults
 
--- standard output grew by the bytes, and was finished
+-- the bytes were sent to standard output, and it was finished
 pub record IsPrinted (bytes : List ℕ) (old new : Outside) : Type 0 where
-  pub grows : Grows (old.slot 8).written (new.slot 8).written bytes
-  pub ended : (new.slot 8).ended ≡ true
+  pub sends : Sends (old.slot 8) (new.slot 8) bytes
+  pub finished : (new.slot 8).finished ≡ true
 
--- it grew by a front of them, and the count of its faults rose
+-- a prefix of them was sent, and the count of its faults rose
 pub record IsCutShort (bytes : List ℕ) (old new : Outside) : Type 0 where
-  pub grows : GrowsByFront (old.slot 8).written (new.slot 8).written bytes
+  pub sends : SendsPrefix (old.slot 8) (new.slot 8) bytes
   pub rose : Rose (old.slot 8).faults (new.slot 8).faults
 
--- a verified run carries what it made
-abbrev pub unprinted : Outcome → Outcome
-unprinted (outcome.Verified made core) = outcome.SinkFault which.Report made core
-unprinted o = outcome.SinkFault which.Report None None
-
--- the report of an outcome is printed; or memory lacks and nothing is; or printing fails
+-- the report of what was found is printed; or memory ran out and nothing is; or printing failed
 abbrev pub Reports : List ℕ → Outside → Outside → Outcome → Outcome → Type 0
-Reports bytes old new found answered = ((answered ≡ outcome.NoMemory) × ((new.slot 8).written ≡ (old.slot 8).written))
+Reports bytes old new found answered = ((answered ≡ outcome.NoMemory) × (new.slot 8 ≡ old.slot 8))
     ⊎ ((answered ≡ found) × IsPrinted bytes old new)
-    ⊎ ((answered ≡ unprinted found) × IsCutShort bytes old new)
+    ⊎ ((answered ≡ outcome.SinkFault which.Report) × IsCutShort bytes old new)
 
--- what is found: a refusal of the words, or what `check` answers on the files
-abbrev pub Finds : LimitValues → Outside → ℕ → Asked → Outcome → Counts → Type 0
-Finds lim old begun (refused kind) o k = is_answer o ≡ true → (o ≡ outcome.Usage kind) × (begun ≡ 0)
-Finds lim old begun (checks s) o k = Answers lim s.proof_form s.strict (text_of lim (old.file s.formula)) (proof_of lim s.proof_form (old.file s.proof)) o k begun
+-- the event that the words and two files of such contents have, with the counts, and with as many files as are begun for it
+abbrev pub IsEvent : LimitValues → Asked → Contents → Contents → Outcome → Counts → ℕ → Type 0
+IsEvent lim (refused kind) formula proof o k begun = (o ≡ outcome.Usage kind) × (begun ≡ 0)
+IsEvent lim (checks s) formula proof o k begun = IsFirst lim s formula proof o k begun
+
+-- memory ran out, or this is the event of all files with which what the slots 0 and 1 gave agrees
+abbrev pub Finds : LimitValues → Asked → Outside → Outcome → Counts → Type 0
+Finds lim a new o k = (o ≡ outcome.NoMemory)
+    ⊎ ((formula proof : Contents) → Agrees (new.slot 0) formula → Agrees (new.slot 1) proof → IsEvent lim a formula proof o k new.begun)
 
 abbrev pub counts_asked : Asked → Counts → Option Counts
 counts_asked (refused kind) k = None
@@ -55,29 +62,45 @@ abbrev pub command_of : Asked → Command
 command_of (refused kind) = command.Other
 command_of (checks s) = command.Check
 
--- something was found, and reported
+-- something was found, and reported; where that is a failed read, its count rose
 pub record Runs (lim : LimitValues) (a : Asked) (old new : Outside) (answered : Outcome) : Type 0 where
   pub found : Outcome
   pub counts : Counts
-  pub finds : Finds lim old new.begun a found counts
+  pub finds : Finds lim a new found counts
+  pub cause : HasReadCause old new found
   pub reports : Reports (report (command_of a) (counts_asked a counts) found) old new found answered
 
--- what is answered as verified has no solution
-abbrev pub IsSound : LimitValues → Outside → Asked → Outcome → Type 0
-IsSound lim old (refused kind) o = o ≡ outcome.Verified None None → ⊥
-IsSound lim old (checks s) o = VerifiedHasNoSolution lim (text_of lim (old.file s.formula)) o
+-- what the formula's slot gave spells a formula that no assignment satisfies, whatever its file has beyond
+abbrev pub IsRefuted : LimitValues → Outside → Type 0
+IsRefuted lim new = (c : Contents) → Agrees (new.slot 0) c
+    → (f : Formula) × ((rest : Tokens) × SpellsFormula lim (spelled lim.bytes c) f rest × Unsat f.clauses)
+
+-- what is answered as verified is refuted
+abbrev pub IsSound : LimitValues → Outside → Outcome → Type 0
+IsSound lim new o = is_verified o ≡ true → IsRefuted lim new
+
+-- where standard output grew by bytes that end with that line, the formula is refuted
+abbrev pub SaysSo : LimitValues → Outside → Outside → Type 0
+SaysSo lim old new = (front : List ℕ) → (new.slot 8).sent ≡ (old.slot 8).sent ++ (front ++ verified_line) → IsRefuted lim new
 
 -- a fault of the outside comes only where the count of its slot rose, with so many files begun
 abbrev pub HasRunCause : Outside → Outside → Outcome → Type 0
-HasRunCause old new (outcome.SourceFault which.Formula) = Rose (old.slot 0).faults (new.slot 0).faults × (new.begun ≡ 1)
-HasRunCause old new (outcome.SourceFault which.Proof) = Rose (old.slot 1).faults (new.slot 1).faults × (new.begun ≡ 2)
-HasRunCause old new (outcome.SourceFault w) = ⊥
-HasRunCause old new (outcome.SinkFault which.Report made core) = Rose (old.slot 8).faults (new.slot 8).faults
-HasRunCause old new (outcome.SinkFault w made core) = ⊥
-HasRunCause old new o = Unit {0}
+HasRunCause old new (outcome.SinkFault which.Report) = Rose (old.slot 8).faults (new.slot 8).faults
+HasRunCause old new o = HasReadCause old new o
 
--- at most two files were begun, both for reading, and no file changed
-pub record OnlyReadsFiles (old new : Outside) : Type 0 where
-  pub begun : new.begun ≤ 2
+-- known files are read as they are
+abbrev pub GivesFiles : Asked → Outside → Outside → Type 0
+GivesFiles (refused kind) old new = Unit {0}
+GivesFiles (checks s) old new = (1 ≤ new.begun → GivesFile 0 s.formula old new) × (2 ≤ new.begun → GivesFile 1 s.proof old new)
+
+-- how many files are begun at most
+abbrev pub most_begun : Asked → ℕ
+most_begun (refused kind) = 0
+most_begun (checks s) = 2
+
+-- so many files at most were begun, all for reading; the other slots but standard output and all files are as they were
+pub record OnlyReadsFiles (a : Asked) (old new : Outside) : Type 0 where
+  pub begun : new.begun ≤ most_begun a
   pub file : new.file ≡ old.file
+  pub unread : (k : ℕ) → new.begun ≤ k → k ≢ 8 → new.slot k ≡ old.slot k
   pub writes : (k : ℕ) → k < 8 → (new.slot k).writes ≡ (old.slot k).writes

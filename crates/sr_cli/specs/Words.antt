@@ -9,8 +9,8 @@ use Rattle.sr_emit.specs.declared.outcome.UsageKind.{UsageKind}
 use Rattle.sr_emit.specs.declared.outcome.UsageKind.TheVariants as usage
 use Rattle.sr_cli.specs.Commands.{check_app}
 use Rattle.sr_cli.specs.declared.words.CheckWords.{CheckWords}
-use Rattle.sr_cli.specs.declared.words.WordsStop.{WordsStop}
-use Rattle.sr_cli.specs.declared.words.WordsStop.TheVariants.{Refused, NoMemory}
+use Rattle.sr_cli.specs.declared.words.WordsError.{WordsError}
+use Rattle.sr_cli.specs.declared.words.WordsError.TheVariants.{Refused, NoMemory}
 
 -- a form, or text where none is named
 abbrev pub form_of : Option Text → Option Form
@@ -72,18 +72,18 @@ said w = record {
 }
 
 -- memory ran out, or the words say this
-abbrev pub Says : Option Said → Result CheckWords WordsStop → Type 0
+abbrev pub Says : Option Said → Result CheckWords WordsError → Type 0
 Says these (Ok w) = these ≡ Some (said w)
 Says these (Err (Refused kind)) = (these ≡ None) × (kind ≡ usage.Words)
 Says these (Err NoMemory) = Unit {0}
 
-abbrev pub SaysTask : Asked → Result CheckWords WordsStop → Type 0
+abbrev pub SaysTask : Asked → Result CheckWords WordsError → Type 0
 SaysTask these (Ok w) = these ≡ checks (said w)
 SaysTask these (Err (Refused kind)) = these ≡ refused kind
 SaysTask these (Err NoMemory) = Unit {0}
 
 -- the matches have these rows and no fault, or there is a fault
-abbrev pub Matches : Kinds → List Row → Result ArgMatches WordsStop → Type 0
+abbrev pub Matches : Kinds → List Row → Result ArgMatches WordsError → Type 0
 Matches faults rows (Ok m) = (faults ≡ []) × (rows_of (found_of m) ≡ rows)
 Matches faults rows (Err (Refused kind)) = (faults ≢ []) × (kind ≡ usage.Words)
 Matches faults rows (Err NoMemory) = Unit {0}

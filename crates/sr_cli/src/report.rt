@@ -2,42 +2,24 @@
 ghost use Rattle.std.specs.Prelude.{◌≡◌, OnOk, OnErr};
 ghost use Rattle.sr_emit.specs.Report.{report};
 ghost use Rattle.std.specs.Prelude.{option_map};
-ghost use Rattle.sr_cli.specs.Run.{OnlyPrints, IsPrinted, IsCutShort, Reports, unprinted};
+ghost use Rattle.sr_cli.specs.Run.{OnlyPrints, IsPrinted, IsCutShort, Reports};
 
 use sr_base::Which;
-use sr_desk::{Desk, Fault, Slot, put_all};
+use sr_desk::{CallError, Desk, Slot, put_all};
 use sr_emit::{Command, Counts, Outcome, report_bytes};
 use std::alloc::Global;
 
 /// Writes bytes to standard output and finishes it.
-fn print<D: Desk>(desk: &mut D, bytes: &[u8]) -> Result<(), Fault>
+fn print<D: Desk>(desk: &mut D, bytes: &[u8]) -> Result<(), CallError>
     ensures only { OnlyPrints (D.outside desk.old) (D.outside desk.new) }
     ensures ok { OnOk result (IsPrinted bytes.now (D.outside desk.old) (D.outside desk.new)) }
     ensures err { OnErr result (IsCutShort bytes.now (D.outside desk.old) (D.outside desk.new)) }
 {
     match put_all(desk, Slot::OUT, bytes) {
-        Err(fault) => Err(fault),
+        Err(error) => Err(error),
         Ok(()) => match desk.finish(Slot::OUT) {
             Ok(()) => Ok(()),
-            Err(_) => Err(Fault),
-        },
-    }
-}
-
-/// The outcome of a run whose report isn't printed.
-fn outcome_unprinted(outcome: Outcome) -> Outcome
-    ensures { result ≡ unprinted outcome }
-{
-    match outcome {
-        Outcome::Verified { made, core } => Outcome::SinkFault {
-            which: Which::Report,
-            made,
-            core,
-        },
-        _ => Outcome::SinkFault {
-            which: Which::Report,
-            made: None,
-            core: None,
+            Err(_) => Err(CallError),
         },
     }
 }
@@ -51,7 +33,8 @@ pub(crate) fn report<D: Desk>(
     desk: &mut D,
 ) -> Outcome
     ensures only { OnlyPrints (D.outside desk.old) (D.outside desk.new) }
-    ensures reports { Reports (report command (option_map (λ c. c.now) counts.entry) found) (D.outside desk.old) (D.outside desk.new) found result }
+    ensures reports { Reports (report command (option_map (λ c. c.now) counts.entry) found)
+        (D.outside desk.old) (D.outside desk.new) found result }
 {
     if let Outcome::NoMemory = found {
         return Outcome::NoMemory;
@@ -60,7 +43,9 @@ pub(crate) fn report<D: Desk>(
         Err(_) => Outcome::NoMemory,
         Ok(bytes) => match print(desk, bytes.as_slice()) {
             Ok(()) => found,
-            Err(_) => outcome_unprinted(found),
+            Err(_) => Outcome::SinkFault {
+                which: Which::Report,
+            },
         },
     }
 }

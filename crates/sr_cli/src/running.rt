@@ -2,11 +2,11 @@
 ghost use Rattle.std.specs.Prelude.{◌≡◌, map, string_bytes};
 ghost use Rattle.sr_base.specs.Limits.{shipped};
 ghost use Rattle.sr_cli.specs.Words.{asked, checks, said};
-ghost use Rattle.sr_cli.specs.Run.{Runs, IsSound, HasRunCause, OnlyReadsFiles};
+ghost use Rattle.sr_cli.specs.Run.{Runs, IsSound, SaysSo, HasRunCause, GivesFiles, OnlyReadsFiles};
 
 use crate::check::check_files;
 use crate::report::report;
-use crate::words::{CheckWords, WordsStop, read_words};
+use crate::words::{CheckWords, WordsError, read_words};
 use sr_base::Limits;
 use sr_desk::Desk;
 use sr_emit::{Command, Outcome};
@@ -15,13 +15,15 @@ use std::alloc::Global;
 /// Runs the command that the words ask for, with the limits that the program ships with.
 ///
 /// The words are those of the command line without the program's name. The first file that is begun has the slot 0 of
-/// the desk, the second one the slot 1. What was found is reported on standard output, but for want of memory.
+/// the desk, the second one the slot 1. What was found is reported on standard output, unless memory runs out.
 pub fn run<D: Desk>(alloc: Global, words: &[String], desk: &mut D) -> Outcome
     requires { (D.outside desk.old).begun ≡ 0 }
     ensures runs { Runs shipped (asked (map string_bytes words.now)) (D.outside desk.old) (D.outside desk.new) result }
-    ensures sound { IsSound shipped (D.outside desk.old) (asked (map string_bytes words.now)) result }
+    ensures sound { IsSound shipped (D.outside desk.new) result }
+    ensures printed { SaysSo shipped (D.outside desk.old) (D.outside desk.new) }
     ensures cause { HasRunCause (D.outside desk.old) (D.outside desk.new) result }
-    ensures only { OnlyReadsFiles (D.outside desk.old) (D.outside desk.new) }
+    ensures files { GivesFiles (asked (map string_bytes words.now)) (D.outside desk.old) (D.outside desk.new) }
+    ensures only { OnlyReadsFiles (asked (map string_bytes words.now)) (D.outside desk.old) (D.outside desk.new) }
 {
     run_with(alloc, &Limits::shipped(), words, desk)
 }
@@ -30,13 +32,15 @@ pub fn run<D: Desk>(alloc: Global, words: &[String], desk: &mut D) -> Outcome
 pub fn run_with<D: Desk>(alloc: Global, limits: &Limits, words: &[String], desk: &mut D) -> Outcome
     requires { (D.outside desk.old).begun ≡ 0 }
     ensures runs { Runs limits.now (asked (map string_bytes words.now)) (D.outside desk.old) (D.outside desk.new) result }
-    ensures sound { IsSound limits.now (D.outside desk.old) (asked (map string_bytes words.now)) result }
+    ensures sound { IsSound limits.now (D.outside desk.new) result }
+    ensures printed { SaysSo limits.now (D.outside desk.old) (D.outside desk.new) }
     ensures cause { HasRunCause (D.outside desk.old) (D.outside desk.new) result }
-    ensures only { OnlyReadsFiles (D.outside desk.old) (D.outside desk.new) }
+    ensures files { GivesFiles (asked (map string_bytes words.now)) (D.outside desk.old) (D.outside desk.new) }
+    ensures only { OnlyReadsFiles (asked (map string_bytes words.now)) (D.outside desk.old) (D.outside desk.new) }
 {
     match read_words(alloc, words) {
-        Err(WordsStop::NoMemory) => Outcome::NoMemory,
-        Err(WordsStop::Refused(kind)) => {
+        Err(WordsError::NoMemory) => Outcome::NoMemory,
+        Err(WordsError::Refused(kind)) => {
             report(alloc, Command::Other, None, Outcome::Usage(kind), desk)
         }
         Ok(said) => run_check(alloc, limits, &said, desk),
@@ -52,9 +56,11 @@ fn run_check<D: Desk>(
 ) -> Outcome
     requires { (D.outside desk.old).begun ≡ 0 }
     ensures runs { Runs limits.now (checks (said asked_for.now)) (D.outside desk.old) (D.outside desk.new) result }
-    ensures sound { IsSound limits.now (D.outside desk.old) (checks (said asked_for.now)) result }
+    ensures sound { IsSound limits.now (D.outside desk.new) result }
+    ensures printed { SaysSo limits.now (D.outside desk.old) (D.outside desk.new) }
     ensures cause { HasRunCause (D.outside desk.old) (D.outside desk.new) result }
-    ensures only { OnlyReadsFiles (D.outside desk.old) (D.outside desk.new) }
+    ensures files { GivesFiles (checks (said asked_for.now)) (D.outside desk.old) (D.outside desk.new) }
+    ensures only { OnlyReadsFiles (checks (said asked_for.now)) (D.outside desk.old) (D.outside desk.new) }
 {
     let found = check_files(alloc, limits, asked_for, desk);
     let all = found.counts;

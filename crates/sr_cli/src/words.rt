@@ -22,26 +22,26 @@ pub struct CheckWords<'a> {
 
 /// Why the words say nothing.
 #[derive(Clone, Copy, Debug, PartialEq, Eq)]
-pub enum WordsStop {
+pub enum WordsError {
     Refused(UsageKind),
     NoMemory,
 }
 
 /// What the words ask for.
-pub fn read_words<'a>(alloc: Global, words: &'a [String]) -> Result<CheckWords<'a>, WordsStop>
+pub fn read_words<'a>(alloc: Global, words: &'a [String]) -> Result<CheckWords<'a>, WordsError>
     ensures { SaysTask (asked (map string_bytes words.entry.now)) result }
 {
     let Some((command, rest)) = words.split_first() else {
-        return Err(WordsStop::Refused(UsageKind::NoCommand));
+        return Err(WordsError::Refused(UsageKind::NoCommand));
     };
     if command.as_str() != "check" {
-        return Err(WordsStop::Refused(UsageKind::UnknownCommand));
+        return Err(WordsError::Refused(UsageKind::UnknownCommand));
     }
     match check_words(alloc, rest) {
         Err(stop) => Err(stop),
         Ok(said) => {
             if said.formula == said.proof {
-                Err(WordsStop::Refused(UsageKind::SameName))
+                Err(WordsError::Refused(UsageKind::SameName))
             } else {
                 Ok(said)
             }
@@ -182,7 +182,7 @@ fn read<'a>(matches: &ArgMatches<'a>) -> Option<CheckWords<'a>>
 }
 
 /// The matches, or whether memory ran out.
-fn matches_for<'a>(command: Command<'a>, words: &'a [String]) -> Result<ArgMatches<'a>, WordsStop>
+fn matches_for<'a>(command: Command<'a>, words: &'a [String]) -> Result<ArgMatches<'a>, WordsError>
     requires { is_simple_and_free (app_of command) ≡ true }
     ensures { Matches (fault_of (app_of command.entry) (map string_bytes words.entry.now))
         (matches_of (app_of command.entry) (map string_bytes words.entry.now)) result }
@@ -191,20 +191,20 @@ fn matches_for<'a>(command: Command<'a>, words: &'a [String]) -> Result<ArgMatch
         Ok(matches) => Ok(matches),
         Err(error) => {
             if error.kind() == ErrorKind::OutOfMemory {
-                Err(WordsStop::NoMemory)
+                Err(WordsError::NoMemory)
             } else {
-                Err(WordsStop::Refused(UsageKind::Words))
+                Err(WordsError::Refused(UsageKind::Words))
             }
         }
     }
 }
 
 /// What the words of `check` say, or a refusal exactly where the command doesn't take them.
-fn check_words<'a>(alloc: Global, words: &'a [String]) -> Result<CheckWords<'a>, WordsStop>
+fn check_words<'a>(alloc: Global, words: &'a [String]) -> Result<CheckWords<'a>, WordsError>
     ensures { Says (check_said (map string_bytes words.entry.now)) result }
 {
     let Ok(command) = check_command(alloc) else {
-        return Err(WordsStop::NoMemory);
+        return Err(WordsError::NoMemory);
     };
     let matches = match matches_for(command, words) {
         Ok(matches) => matches,
@@ -212,6 +212,6 @@ fn check_words<'a>(alloc: Global, words: &'a [String]) -> Result<CheckWords<'a>,
     };
     match read(&matches) {
         Some(said) => Ok(said),
-        None => Err(WordsStop::Refused(UsageKind::Words)),
+        None => Err(WordsError::Refused(UsageKind::Words)),
     }
 }

@@ -1,4 +1,3 @@
-pub mod Failing
 pub mod Plain
 pub mod Steps
 pub mod Numbers

@@ -1,4 +1,2 @@
-pub mod Front
-pub mod Gives
 pub mod Reading
 pub mod Written

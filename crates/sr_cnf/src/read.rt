@@ -1,32 +1,28 @@
 // Reading a formula.
-ghost use Rattle.std.specs.Prelude.{true, IsTrue};
-ghost use Rattle.sr_desk.specs.Outside.{OnlyReads};
-ghost use Rattle.sr_desk.specs.Next.{IsSameReader};
-ghost use Rattle.sr_scan.specs.Left.{texts_left};
-ghost use Rattle.sr_cnf.specs.Gives.{GivesFormula, HasInCause};
+ghost use Rattle.sr_model.specs.Dimacs.{formula_at};
+ghost use Rattle.sr_desk.specs.Next.{Stands, Reads, ForContents};
+ghost use Rattle.sr_scan.specs.Left.{text_left, Gives, is_fault};
 
 use crate::reading::{Reading, Stage};
-use sr_base::{Limits, LitList};
+use sr_base::{InputError, Limits, LitList};
 use sr_desk::{ByteReader, Desk};
 use sr_scan::text_item;
-use sr_wit::{Formula, InFault};
+use sr_wit::Formula;
 use std::alloc::Global;
 
 /// The formula that the reader's text spells in the DIMACS CNF format, from where the reader stands.
 ///
-/// A clause keeps each literal where it stands first. What follows a `%` isn't read. After an error the reader isn't
-/// to be used again.
+/// A clause keeps each literal where it stands first. What follows a `%` isn't read.
 pub fn read_formula<D: Desk>(
     alloc: Global,
     reader: &mut ByteReader,
     desk: &mut D,
     limits: &Limits,
-) -> Result<Formula, InFault>
-    requires { IsTrue ((D.outside desk.old).slot reader.old.slot).reads }
-    ensures formula { GivesFormula limits.now (texts_left reader.old (D.outside desk.old)) result }
-    ensures same { IsSameReader reader.old reader.new }
-    ensures only { OnlyReads reader.old.slot (D.outside desk.old) (D.outside desk.new) }
-    ensures cause { HasInCause reader.old.slot (D.outside desk.old) (D.outside desk.new) result }
+) -> Result<Formula, InputError>
+    requires { Stands reader.old (D.outside desk.old) }
+    ensures formula { ForContents reader.new (D.outside desk.new)
+        (λ c. Gives (formula_at limits.now (text_left reader.old c)) (text_left reader.new c) result) }
+    ensures reads { Reads reader.old reader.new (D.outside desk.old) (D.outside desk.new) (is_fault result) }
 {
     let mut reading = Reading {
         limits: *limits,
@@ -36,9 +32,12 @@ pub fn read_formula<D: Desk>(
         lits: LitList::new(alloc),
     };
     'tokens: loop {
-        let item = text_item(reader, desk);
-        match reading.take(alloc, item) {
-            Err(fault) => return Err(fault),
+        let token = match text_item(reader, desk) {
+            Ok(token) => token,
+            Err(error) => return Err(reading.error_at(error)),
+        };
+        match reading.take(alloc, token) {
+            Err(error) => return Err(error),
             Ok(true) => return Ok(reading.formula),
             Ok(false) => {}
         }

@@ -5,8 +5,7 @@ ghost use Rattle.sr_model.specs.Writing.{number_line, written_formula, selected}
 ghost use Rattle.sr_cnf.specs.Written.{IsNumberOf, header};
 
 use sr_base::{ByteList, Form, Lit, NoMemory};
-use sr_lemma::{put_clause, put_end};
-use sr_scan::put_number_text;
+use sr_scan::{put_end, put_literals, put_number_text};
 use sr_wit::Formula;
 use std::alloc::Global;
 
@@ -26,7 +25,7 @@ fn put_header(out: &mut ByteList, vars: u32, count: usize) -> Result<(), NoMemor
 fn put_line(out: &mut ByteList, lits: &[Lit]) -> Result<(), NoMemory>
     ensures { OnOk result (out.new ≡ out.old ++ number_line (map number lits.now)) }
 {
-    put_clause(Form::Text, out, lits, None)?;
+    put_literals(Form::Text, out, lits)?;
     put_end(Form::Text, out)
 }
 

@@ -1,13 +1,12 @@
 // Proofs, read and written item by item or line by line.
-ghost use Rattle.std.specs.Prelude.{◌≡◌, ◌-◌, ◌<◌, true, IsTrue};
-ghost use Rattle.sr_lsr.specs.Reads.{TakesSome};
+ghost use Rattle.std.specs.Prelude.{◌≡◌};
+ghost use Rattle.sr_desk.specs.Next.{Stands};
 
 use crate::output::{Output, Target};
-use sr_base::{Form, Limits, LitList};
+use sr_base::{Form, InputError, Limits};
 use sr_desk::{ByteReader, Desk};
-use sr_dsr::{line_bytes, next_line_in, read_line};
-use sr_lsr::{ItemLists, item_bytes, next_item_in, read_item};
-use sr_wit::InFault;
+use sr_dsr::LineReader;
+use sr_lsr::ItemReader;
 use std::alloc::Global;
 
 /// Steps with hints, or lemmas.
@@ -26,123 +25,54 @@ pub enum CopyStop {
     NoMemory,
 }
 
-fn stop_of(fault: InFault) -> CopyStop {
-    match fault {
-        InFault::Text { .. } => CopyStop::Spelling,
-        InFault::Limit(_) => CopyStop::Spelling,
-        InFault::Source => CopyStop::Source,
-        InFault::NoMemory => CopyStop::NoMemory,
+fn stop_of(error: InputError) -> CopyStop {
+    match error {
+        InputError::Text { .. } => CopyStop::Spelling,
+        InputError::Limit(_) => CopyStop::Spelling,
+        InputError::Source => CopyStop::Source,
+        InputError::NoMemory => CopyStop::NoMemory,
     }
 }
 
-/// Copies one item, and says whether there was one.
-fn copy_item<D: Desk>(
+/// Copies all items.
+fn copy_items<D: Desk>(
     alloc: Global,
-    form: Form,
-    lists: &mut ItemLists,
-    reader: &mut ByteReader,
-    desk: &mut D,
-    out: &mut Output,
-) -> Result<bool, CopyStop>
-    requires { IsTrue ((D.outside desk.old).slot reader.old.slot).reads }
-    ensures reads { IsTrue ((D.outside desk.new).slot reader.new.slot).reads }
-    ensures takes { result ≡ Ok true → TakesSome reader.old reader.new }
-{
-    if matches!(out.target, Target::Lists) {
-        return match read_item(form, lists, reader, desk, &Limits::shipped()) {
-            Err(fault) => Err(stop_of(fault)),
-            Ok(None) => Ok(false),
-            Ok(Some(_)) => Ok(true),
-        };
-    }
-    let item = match next_item_in(alloc, form, lists, reader, desk, &Limits::shipped()) {
-        Err(fault) => return Err(stop_of(fault)),
-        Ok(None) => return Ok(false),
-        Ok(Some(item)) => item,
-    };
-    if let Target::Written(to) = out.target {
-        let Ok(bytes) = item_bytes(alloc, to, &item) else {
-            return Err(CopyStop::NoMemory);
-        };
-        out.add(bytes.as_slice(), desk)?;
-    }
-    lists.reuse(item);
-    Ok(true)
-}
-
-/// Copies one line, and says whether there was one.
-fn copy_line<D: Desk>(
-    alloc: Global,
-    form: Form,
-    lits: &mut LitList,
-    reader: &mut ByteReader,
-    desk: &mut D,
-    out: &mut Output,
-) -> Result<bool, CopyStop>
-    requires { IsTrue ((D.outside desk.old).slot reader.old.slot).reads }
-    ensures reads { IsTrue ((D.outside desk.new).slot reader.new.slot).reads }
-    ensures takes { result ≡ Ok true → TakesSome reader.old reader.new }
-{
-    if matches!(out.target, Target::Lists) {
-        return match read_line(form, lits, reader, desk, &Limits::shipped()) {
-            Err(fault) => Err(stop_of(fault)),
-            Ok(None) => Ok(false),
-            Ok(Some(_)) => Ok(true),
-        };
-    }
-    let line = match next_line_in(alloc, form, lits, reader, desk, &Limits::shipped()) {
-        Err(fault) => return Err(stop_of(fault)),
-        Ok(None) => return Ok(false),
-        Ok(Some(line)) => line,
-    };
-    if let Target::Written(to) = out.target {
-        let Ok(bytes) = line_bytes(alloc, to, &line) else {
-            return Err(CopyStop::NoMemory);
-        };
-        out.add(bytes.as_slice(), desk)?;
-    }
-    *lits = line.into_list();
-    Ok(true)
-}
-
-/// Copies one item or line, and says whether there was one.
-fn copy_next<D: Desk>(
-    alloc: Global,
-    kind: Kind,
-    form: Form,
-    lists: &mut ItemLists,
-    reader: &mut ByteReader,
-    desk: &mut D,
-    out: &mut Output,
-) -> Result<bool, CopyStop>
-    requires { IsTrue ((D.outside desk.old).slot reader.old.slot).reads }
-    ensures reads { IsTrue ((D.outside desk.new).slot reader.new.slot).reads }
-    ensures takes { result ≡ Ok true → TakesSome reader.old reader.new }
-{
-    match kind {
-        Kind::Lsr => copy_item(alloc, form, lists, reader, desk, out),
-        Kind::Dsr => copy_line(alloc, form, &mut lists.lits, reader, desk, out),
-    }
-}
-
-/// Copies all items or lines.
-fn copy_all<D: Desk>(
-    alloc: Global,
-    kind: Kind,
-    form: Form,
-    reader: &mut ByteReader,
+    reader: &mut ItemReader,
     desk: &mut D,
     out: &mut Output,
 ) -> Result<(), CopyStop>
-    requires { IsTrue ((D.outside desk.old).slot reader.old.slot).reads }
+    requires { Stands reader.old.reader (D.outside desk.old) }
 {
-    let Ok(mut lists) = ItemLists::new(alloc) else {
-        return Err(CopyStop::NoMemory);
-    };
+    let limits = Limits::shipped();
     'items: loop {
-        if !copy_next(alloc, kind, form, &mut lists, reader, desk, out)? {
-            return out.send(desk);
-        }
+        let item = match reader.next(desk, &limits) {
+            Ok(Some(item)) => item,
+            Ok(None) => return out.send(desk),
+            Err(error) => return Err(stop_of(error)),
+        };
+        out.put_item(alloc, &item, desk)?;
+        reader.reuse(item);
+    }
+}
+
+/// Copies all lines.
+fn copy_lines<D: Desk>(
+    alloc: Global,
+    reader: &mut LineReader,
+    desk: &mut D,
+    out: &mut Output,
+) -> Result<(), CopyStop>
+    requires { Stands reader.old.reader (D.outside desk.old) }
+{
+    let limits = Limits::shipped();
+    'lines: loop {
+        let line = match reader.next(desk, &limits) {
+            Ok(Some(line)) => line,
+            Ok(None) => return out.send(desk),
+            Err(error) => return Err(stop_of(error)),
+        };
+        out.put_line(alloc, &line, desk)?;
+        reader.reuse(line);
     }
 }
 
@@ -160,9 +90,22 @@ pub fn copy_file<D: Desk>(
     let Ok(slot) = desk.begin_read(name) else {
         return Err(CopyStop::Source);
     };
-    let Ok(mut reader) = ByteReader::new(alloc, slot, Limits::shipped().bytes()) else {
+    let Ok(bytes) = ByteReader::new(alloc, slot, Limits::shipped().bytes()) else {
         return Err(CopyStop::NoMemory);
     };
     let mut out = Output::new(alloc, target);
-    copy_all(alloc, kind, from, &mut reader, desk, &mut out)
+    match kind {
+        Kind::Lsr => {
+            let Ok(mut reader) = ItemReader::new(alloc, from, bytes) else {
+                return Err(CopyStop::NoMemory);
+            };
+            copy_items(alloc, &mut reader, desk, &mut out)
+        }
+        Kind::Dsr => {
+            let Ok(mut reader) = LineReader::new(alloc, from, bytes) else {
+                return Err(CopyStop::NoMemory);
+            };
+            copy_lines(alloc, &mut reader, desk, &mut out)
+        }
+    }
 }

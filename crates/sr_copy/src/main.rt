@@ -1,6 +1,6 @@
 //! Reads a proof and writes it again, in text or in binary: `sr_copy KIND FROM TO FILE`, where KIND is `lsr` or `dsr`,
-//! FROM is `text` or `binary`, and TO is one of these two; or `lists`, which reads into lists that are kept, or `items`,
-//! which makes each item, and neither writes. What is written goes to standard output.
+//! FROM is `text` or `binary`, and TO is one of these two; or `items`, which reads alone. What is written goes to standard
+//! output.
 //!
 //! It is there to measure reading and writing alone. The status is 0 where the whole file was read and written, 2 for
 //! other words, 3 where the file spells no such proof, 5 where reading fails, 6 where writing does, and 7 for want of memory.
@@ -45,8 +45,7 @@ fn form_named(word: &str) -> Option<Form> {
 
 fn target_named(word: &str) -> Option<Target> {
     match word {
-        "lists" => Some(Target::Lists),
-        "items" => Some(Target::Items),
+        "items" => Some(Target::Read),
         _ => match form_named(word) {
             Some(form) => Some(Target::Written(form)),
             None => None,

@@ -1,31 +1,20 @@
 -- What the calls of a desk in memory do to the outside.
-use Rattle.std.proofs.Common.{◌≡◌, ℕ, zero, suc, ◌+◌, ◌-◌, ◌<◌, ◌≤◌, Bool, true, false, IsTrue, List, [], ◌∷◌, ◌++◌, length, take, drop, set, get_or, Some, Ok, Err, refl, sym, ◌∙◌, ap, arith, length-drop, length-take, zero-add}
+use Rattle.std.proofs.Common.{◌≡◌, ℕ, zero, suc, ◌+◌, ◌-◌, ◌<◌, ◌≤◌, ◌==◌, ◌||◌, Bool, true, false, IsTrue, List, [], ◌∷◌, ◌++◌, length, take, drop, set, get_or, Some, Ok, Err, refl, sym, ◌∙◌, ap, arith, length-drop, length-take, zero-add}
 use Rattle.std.proofs.lemmas.List.{get_or-set_same, get_or-set_other, take-append-drop, drop-take}
-use Rattle.std.proofs.Math.Seq.{get_or-append_seam, take-length, take-append_seam}
+use Rattle.std.proofs.Math.Seq.{get_or-append_seam, take-length, take-append_seam, take-add}
 use Rattle.std.proofs.lemmas.Bool.Decides.{nat_tests}
-use Rattle.sr_desk.specs.declared.desk.Failed.{Failed}
+use Rattle.sr_desk.specs.declared.desk.CallError.{CallError}
 use Rattle.sr_desk.specs.declared.slot.Slot.{Slot}
 use Rattle.sr_desk.specs.declared.held.Usage.{Usage}
 use Rattle.sr_desk.specs.declared.held.Usage.TheVariants.{Unused, Reading, Writing, Output}
+use Rattle.sr_base.specs.Contents as contents
+use Rattle.sr_desk.specs.LastReads.{ending_of}
+use Rattle.sr_desk.specs.declared.last_read.LastRead.{LastRead}
+use Rattle.sr_desk.specs.declared.last_read.LastRead.TheVariants.{Fine, Failed}
 use Rattle.sr_desk.specs.Outside.{OnlyReads, OnlyWrites}
-use Rattle.sr_desk.specs.Calls.{BeginsRead, BeginsWrite, Finishes, Moves, Grows}
-use Rattle.sr_desk.specs.MemoryParts.{text_at, usage_at, latest, memory_outside, name_by, left_by, written_by, fits, AllFit, AllApart, AllUnused, Raises, more_texts, more_out}
-use Rattle.sr_desk.proofs.MemoryLemmas.{usage-set_same, usage-set_other, left-push, written-push, name-push, left-more, written-more, written-out, file-push_other, file-more_other}
-
-pub begins_read-err : (N T : List (List ℕ)) (O : List ℕ) (b : ℕ) (U : List Usage) (E : List Bool) (F G : List ℕ) (name : List ℕ) (e : Failed) → Raises b F G
-    → BeginsRead {E = Failed} (memory_outside N T O b U E F) (memory_outside N T O (b + 1) U E G) name (Err e)
-begins_read-err N T O b U E F G name e r =
-    record { begun = refl; file = refl; elsewhere = λ k ne. rw (r.elsewhere k ne) refl; later = r.later; number = tt; slot = refl }
-
-pub begins_write-err : (N T : List (List ℕ)) (O : List ℕ) (b : ℕ) (U : List Usage) (E : List Bool) (F G : List ℕ) (name : List ℕ) (e : Failed) → Raises b F G
-    → BeginsWrite {E = Failed} (memory_outside N T O b U E F) (memory_outside N T O (b + 1) U E G) name (Err e)
-begins_write-err N T O b U E F G name e r =
-    record { begun = refl; file = λ o ne. refl; elsewhere = λ k ne. rw (r.elsewhere k ne) refl; later = r.later; number = tt; slot = refl }
-
-pub reads-err : (N T : List (List ℕ)) (O : List ℕ) (b : ℕ) (U : List Usage) (E : List Bool) (F G : List ℕ) (n : ℕ) → Raises n F G
-    → OnlyReads n (memory_outside N T O b U E F) (memory_outside N T O b U E G)
-reads-err N T O b U E F G n r =
-    record { begun = refl; file = refl; elsewhere = λ k ne. rw (r.elsewhere k ne) refl; later = r.later; slot = refl }
+use Rattle.sr_desk.specs.Calls.{BeginsRead, BeginsWrite, Finishes, Moves, Hands, HandsNothing, Sends, Grows, ending_after}
+use Rattle.sr_desk.specs.MemoryParts.{text_at, usage_at, latest, memory_outside, Marks, state_by, name_by, left_by, sent_by, written_by, writes_by, fits, AllFit, AllApart, AllUnused, Raises, more_texts, more_out}
+use Rattle.sr_desk.proofs.MemoryLemmas.{usage-set_same, usage-set_other, given-push, given-more, sent-push, sent-more, sent-out, left-push, written-push, name-push, left-more, written-more, written-out, file-push_other, file-more_other}
 
 pub cleared : (E : List Bool) (n : ℕ) → get_or (set E n false) n false ≡ false
 cleared [] zero = refl
@@ -33,131 +22,190 @@ cleared [] (suc n) = refl
 cleared (x ∷ E) zero = refl
 cleared (x ∷ E) (suc n) = cleared E n
 
-not_ended : (E : List Bool) (n : ℕ) (P : Type 0) → get_or (set E n false) n false ≡ true → P
-not_ended E n P e = let f = cleared E n in cc
-
-pub writes-err : (N T : List (List ℕ)) (O : List ℕ) (b : ℕ) (U : List Usage) (E : List Bool) (F G : List ℕ) (n : ℕ) → Raises n F G
-    → OnlyWrites n (memory_outside N T O b U E F) (memory_outside N T O b U (set E n false) G)
-writes-err N T O b U E F G n r = record {
-  begun = refl;
-  file = record { output = λ e. refl; named = λ own other e ne. refl };
-  elsewhere = λ k ne. rw (r.elsewhere k ne, get_or-set_other E n k false false ne) refl;
-  later = r.later;
-  slot = refl;
-  ended = λ e. not_ended E n _ e;
-}
-
-pub finishes-err : (N T : List (List ℕ)) (O : List ℕ) (b : ℕ) (U : List Usage) (E : List Bool) (F G : List ℕ) (n : ℕ) (e : Failed) → Raises n F G
-    → Finishes {E = Failed} n (memory_outside N T O b U E F) (memory_outside N T O b U E G) (Err e)
-finishes-err N T O b U E F G n e r =
-    record { begun = refl; file = refl; elsewhere = λ k ne. rw (r.elsewhere k ne) refl; later = r.later; slot = refl; ended = tt; failed = refl }
-
-pub finishes-ok : (N T : List (List ℕ)) (O : List ℕ) (b : ℕ) (U : List Usage) (E : List Bool) (F : List ℕ) (n : ℕ) → n < length E
-    → Finishes {E = Failed} n (memory_outside N T O b U E F) (memory_outside N T O b U (set E n true) F) (Ok tt)
-finishes-ok N T O b U E F n lt =
-    record { begun = refl; file = refl; elsewhere = λ k ne. rw (get_or-set_other E n k true false ne) refl; later = omega arith; slot = refl; ended = get_or-set_same E n true false lt; failed = tt }
-
 whole : (bytes : List ℕ) → drop 0 (take (length bytes) bytes) ≡ bytes
 whole bytes = rw (take-length bytes) refl
 
-pub begins_read-ok : (N T : List (List ℕ)) (O : List ℕ) (b : ℕ) (U : List Usage) (E : List Bool) (F : List ℕ) (name : List ℕ) (v : ℕ) (s : Slot)
-    → s.number ≡ b → latest N name ≡ Some v → b < 8 → length U ≡ 9 → AllUnused b U
-    → BeginsRead {E = Failed} (memory_outside N T O b U E F) (memory_outside N T O (b + 1) (set U b (Reading v 0 (length (text_at T v)))) E F) name (Ok s)
-begins_read-ok N T O b U E F name v s is found lt len all =
-    let now : usage_at (set U b (Reading v 0 (length (text_at T v)))) b ≡ Reading v 0 (length (text_at T v)) = usage-set_same U b _ (omega arith) in
-    let was : usage_at U b ≡ Unused = all b (omega arith) lt in
-    record {
-      begun = refl;
-      file = refl;
-      elsewhere = λ k ne. rw (usage-set_other U b k (Reading v 0 (length (text_at T v))) ne) refl;
-      later = omega arith;
-      number = is;
-      slot = rw (now, was, found, whole (text_at T v)) refl;
-    }
+module _ (N T : List (List ℕ)) (O : List ℕ) (b : ℕ) (U : List Usage) (m : Marks) where
+  pub begins_read-err : (G : List ℕ) (name : List ℕ) (e : CallError) → Raises b m.faults G → b < 8 → b < length m.last → AllUnused b U
+      → BeginsRead {E = CallError} (memory_outside N T O b U m) (memory_outside N T O (b + 1) U (record m { last = set m.last b Failed; faults = G })) name (Err e)
+  begins_read-err G name e r lt lt_last all =
+      let was : usage_at U b ≡ Unused = all b (omega arith) lt in
+      record {
+        begun = refl;
+        file = refl;
+        elsewhere = λ k ne. rw (r.elsewhere k ne, get_or-set_other m.last b k Failed Fine ne) refl;
+        later = r.later;
+        number = tt;
+        slot = rw (was, get_or-set_same m.last b Failed Fine lt_last) refl;
+      }
 
-pub begins_write-ok : (N T : List (List ℕ)) (O : List ℕ) (b : ℕ) (U : List Usage) (E : List Bool) (F : List ℕ) (name : List ℕ) (s : Slot)
-    → s.number ≡ b → length N ≡ length T → b < 8 → length U ≡ 9 → length E ≡ 9 → AllUnused b U → AllFit T U
-    → BeginsWrite {E = Failed} (memory_outside N T O b U E F) (memory_outside (N ++ name ∷ []) (T ++ [] ∷ []) O (b + 1) (set U b (Writing (length T))) (set E b false) F) name (Ok s)
-begins_write-ok N T O b U E F name s is same lt len elen all fit =
-    let now : usage_at (set U b (Writing (length T))) b ≡ Writing (length T) = usage-set_same U b _ (omega arith) in
-    let was : usage_at U b ≡ Unused = all b (omega arith) lt in
-    let ended : get_or (set E b false) b false ≡ false = get_or-set_same E b false false (omega arith) in
-    let name_is : text_at (N ++ name ∷ []) (length T) ≡ name = rw (← same) (get_or-append_seam N name [] []) in
-    let text_is : text_at (T ++ [] ∷ []) (length T) ≡ [] = get_or-append_seam T [] [] [] in
-    record {
-      begun = refl;
-      file = λ o ne. file-push_other N T name [] o same ne;
-      elsewhere = λ k ne. rw (
-        usage-set_other U b k (Writing (length T)) ne,
-        get_or-set_other E b k false false ne,
-        name-push N T name (usage_at U k) same (fit k),
-        left-push T [] (usage_at U k) (fit k),
-        written-push T O [] (usage_at U k) (fit k),
-      ) refl;
-      later = omega arith;
-      number = is;
-      slot = (rw (now, was, ended) refl, (rw now text_is, rw now name_is));
-    }
+  pub begins_write-err : (G : List ℕ) (name : List ℕ) (e : CallError) → Raises b m.faults G
+      → BeginsWrite {E = CallError} (memory_outside N T O b U m) (memory_outside N T O (b + 1) U (record m { faults = G })) name (Err e)
+  begins_write-err G name e r =
+      record { begun = refl; file = λ o ne. refl; elsewhere = λ k ne. rw (r.elsewhere k ne) refl; later = r.later; number = tt; slot = refl }
 
-pub reads-ok : (N T : List (List ℕ)) (O : List ℕ) (b : ℕ) (U : List Usage) (E : List Bool) (F : List ℕ) (n v p q r : ℕ)
-    → usage_at U n ≡ Reading v p q → n < length U
-    → OnlyReads n (memory_outside N T O b U E F) (memory_outside N T O b (set U n (Reading v r q)) E F)
-reads-ok N T O b U E F n v p q r was lt =
-    let now : usage_at (set U n (Reading v r q)) n ≡ Reading v r q = usage-set_same U n _ lt in
-    record {
-      begun = refl;
-      file = refl;
-      elsewhere = λ k ne. rw (usage-set_other U n k (Reading v r q) ne) refl;
-      later = omega arith;
-      slot = rw (now, was) refl;
-    }
+  pub reads-err : (G : List ℕ) (n : ℕ) → n < length m.last → Raises n m.faults G
+      → OnlyReads n (memory_outside N T O b U m) (memory_outside N T O b U (record m { last = set m.last n Failed; faults = G }))
+  reads-err G n lt r = record {
+    begun = refl;
+    file = refl;
+    elsewhere = λ k ne. rw (r.elsewhere k ne, get_or-set_other m.last n k Failed Fine ne) refl;
+    later = r.later;
+    slot = refl;
+    source = λ bytes h. h;
+    ended = rw (get_or-set_same m.last n Failed Fine lt) (λ h e. cc);
+  }
 
-pub writes-ok : (N T : List (List ℕ)) (O : List ℕ) (b : ℕ) (U : List Usage) (E : List Bool) (F : List ℕ) (n : ℕ) (piece : List ℕ) (u : Usage)
-    → usage_at U n ≡ u → (n ≡ 8 → u ≡ Output) → AllFit T U → AllApart U
-    → OnlyWrites n (memory_outside N T O b U E F) (memory_outside N (more_texts T u piece) (more_out O u piece) b U (set E n false) F)
-writes-ok N T O b U E F n piece Unused is out fit far = record {
-  begun = refl;
-  file = record { output = λ e. refl; named = λ own other e ne. refl };
-  elsewhere = λ k ne. rw (get_or-set_other E n k false false ne) refl;
-  later = omega arith;
-  slot = refl;
-  ended = λ e. not_ended E n _ e;
-}
-writes-ok N T O b U E F n piece (Reading v p q) is out fit far = record {
-  begun = refl;
-  file = record { output = λ e. refl; named = λ own other e ne. refl };
-  elsewhere = λ k ne. rw (get_or-set_other E n k false false ne) refl;
-  later = omega arith;
-  slot = refl;
-  ended = λ e. not_ended E n _ e;
-}
-writes-ok N T O b U E F n piece (Writing v) is out fit far = record {
-  begun = refl;
-  file = record {
-    output = λ e. absurd (cc (out e));
-    named = λ own other e ne. let named : name_by N (usage_at U n) ≡ Some own = e in
-        let own_is : text_at N v ≡ own = cc (rw is at named) in file-more_other N T v piece other (λ same. ne (same ∙ own_is));
-  };
-  elsewhere = λ k ne. rw (
-    get_or-set_other E n k false false ne,
-    left-more T v piece (usage_at U k) (fit k),
-    written-more T O v piece (usage_at U k) (rw is at (far n k (λ e. ne (sym e)))),
-  ) refl;
-  later = omega arith;
-  slot = rw is refl;
-  ended = λ e. not_ended E n _ e;
-}
-writes-ok N T O b U E F n piece Output is out fit far = record {
-  begun = refl;
-  file = record { output = λ e. refl; named = λ own other e ne. refl };
-  elsewhere = λ k ne. rw (
-    get_or-set_other E n k false false ne,
-    written-out T O piece (usage_at U k) (rw is at (far n k (λ e. ne (sym e)))),
-  ) refl;
-  later = omega arith;
-  slot = refl;
-  ended = λ e. not_ended E n _ e;
-}
+  pub hands_nothing : (G : List ℕ) (n : ℕ) → n < length m.last
+      → HandsNothing ((memory_outside N T O b U m).slot n) ((memory_outside N T O b U (record m { last = set m.last n Failed; faults = G })).slot n)
+  hands_nothing G n lt = record { given = refl; ending = rw (get_or-set_same m.last n Failed Fine lt) refl; left = λ bytes h. h }
+
+  not_finished : (n : ℕ) (P : Type 0) → get_or (set m.finished n false) n false ≡ true → P
+  not_finished n P e = let f = cleared m.finished n in cc
+
+  pub writes-err : (G : List ℕ) (n : ℕ) → Raises n m.faults G
+      → OnlyWrites n (memory_outside N T O b U m) (memory_outside N T O b U (record m { finished = set m.finished n false; faults = G }))
+  writes-err G n r = record {
+    begun = refl;
+    file = record { output = λ e. refl; named = λ own other e ne. refl };
+    elsewhere = λ k ne. rw (r.elsewhere k ne, get_or-set_other m.finished n k false false ne) refl;
+    later = r.later;
+    slot = refl;
+    finished = λ e. not_finished n _ e;
+  }
+
+  pub finishes-err : (G : List ℕ) (n : ℕ) (e : CallError) → Raises n m.faults G
+      → Finishes {E = CallError} n (memory_outside N T O b U m) (memory_outside N T O b U (record m { faults = G })) (Err e)
+  finishes-err G n e r = record {
+    begun = refl;
+    file = refl;
+    elsewhere = λ k ne. rw (r.elsewhere k ne) refl;
+    later = r.later;
+    slot = refl;
+    written = λ bytes h. h;
+    finished = tt;
+    failed = refl;
+  }
+
+  pub finishes-ok : (n : ℕ) → n < length m.finished
+      → Finishes {E = CallError} n (memory_outside N T O b U m) (memory_outside N T O b U (record m { finished = set m.finished n true })) (Ok tt)
+  finishes-ok n lt = record {
+    begun = refl;
+    file = refl;
+    elsewhere = λ k ne. rw (get_or-set_other m.finished n k true false ne) refl;
+    later = omega arith;
+    slot = refl;
+    written = λ bytes h. h;
+    finished = get_or-set_same m.finished n true false lt;
+    failed = tt;
+  }
+
+  pub begins_read-ok : (name : List ℕ) (v : ℕ) (s : Slot) → s.number ≡ b → latest N name ≡ Some v → b < 8 → length U ≡ 9 → b < length m.last → AllUnused b U
+      → BeginsRead {E = CallError} (memory_outside N T O b U m)
+      (memory_outside N T O (b + 1) (set U b (Reading v 0 (length (text_at T v)))) (record m { last = set m.last b Fine })) name (Ok s)
+  begins_read-ok name v s is found lt len lt_last all =
+      let now : usage_at (set U b (Reading v 0 (length (text_at T v)))) b ≡ Reading v 0 (length (text_at T v)) = usage-set_same U b _ (omega arith) in
+      let was : usage_at U b ≡ Unused = all b (omega arith) lt in
+      record {
+        begun = refl;
+        file = refl;
+        elsewhere = λ k ne. rw (usage-set_other U b k (Reading v 0 (length (text_at T v))) ne, get_or-set_other m.last b k Fine Fine ne) refl;
+        later = omega arith;
+        number = is;
+        slot = (rw (now, was, get_or-set_same m.last b Fine Fine lt_last) refl, rw (now, found, whole (text_at T v)) (λ bytes h. h));
+      }
+
+  pub begins_write-ok : (name : List ℕ) (s : Slot) → s.number ≡ b → length N ≡ length T → b < 8 → length U ≡ 9 → b < length m.finished → AllUnused b U → AllFit T U
+      → BeginsWrite {E = CallError} (memory_outside N T O b U m)
+      (memory_outside (N ++ name ∷ []) (T ++ [] ∷ []) O (b + 1) (set U b (Writing (length T))) (record m { finished = set m.finished b false })) name (Ok s)
+  begins_write-ok name s is same lt len lt_finished all fit =
+      let now : usage_at (set U b (Writing (length T))) b ≡ Writing (length T) = usage-set_same U b _ (omega arith) in
+      let was : usage_at U b ≡ Unused = all b (omega arith) lt in
+      let finished : get_or (set m.finished b false) b false ≡ false = get_or-set_same m.finished b false false lt_finished in
+      let name_is : text_at (N ++ name ∷ []) (length T) ≡ name = rw (← same) (get_or-append_seam N name [] []) in
+      let text_is : text_at (T ++ [] ∷ []) (length T) ≡ [] = get_or-append_seam T [] [] [] in
+      record {
+        begun = refl;
+        file = λ o ne. file-push_other N T name [] o same ne;
+        elsewhere = λ k ne. rw (
+          usage-set_other U b k (Writing (length T)) ne,
+          get_or-set_other m.finished b k false false ne,
+          name-push N T name (usage_at U k) same (fit k),
+          given-push T [] (usage_at U k) (fit k),
+          left-push T [] (usage_at U k) (fit k),
+          sent-push T O [] (usage_at U k) (fit k),
+          written-push T O [] (usage_at U k) (fit k),
+        ) refl;
+        later = omega arith;
+        number = is;
+        slot = (rw (now, was, finished, text_is) refl, (rw now text_is, rw now name_is));
+      }
+
+  pub reads-ok : (n v p q r : ℕ) (l : LastRead) → usage_at U n ≡ Reading v p q → n < length U → n < length m.last
+      → (ending_of l ≡ Some contents.ended → drop r (take q (text_at T v)) ≡ [])
+      → OnlyReads n (memory_outside N T O b U m) (memory_outside N T O b (set U n (Reading v r q)) (record m { last = set m.last n l }))
+  reads-ok n v p q r l was lt lt_last none =
+      let now : usage_at (set U n (Reading v r q)) n ≡ Reading v r q = usage-set_same U n _ lt in
+      let same : take r (take q (text_at T v)) ++ drop r (take q (text_at T v)) ≡ take p (take q (text_at T v)) ++ drop p (take q (text_at T v)) =
+      take-append-drop r (take q (text_at T v)) ∙ sym (take-append-drop p (take q (text_at T v))) in
+      record {
+        begun = refl;
+        file = refl;
+        elsewhere = λ k ne. rw (usage-set_other U n k (Reading v r q) ne, get_or-set_other m.last n k l Fine ne) refl;
+        later = omega arith;
+        slot = rw (now, was) refl;
+        source = rw (now, was, same) (λ bytes h. h);
+        ended = rw (now, get_or-set_same m.last n l Fine lt_last) (λ h e left some. let end : drop r (take q (text_at T v)) ≡ [] = none e in cc);
+      }
+
+  pub writes-ok : (n : ℕ) (piece : List ℕ) (u : Usage) → usage_at U n ≡ u → (n ≡ 8 → u ≡ Output) → AllFit T U → AllApart U
+      → OnlyWrites n (memory_outside N T O b U m) (memory_outside N (more_texts T u piece) (more_out O u piece) b U (record m { finished = set m.finished n false }))
+  writes-ok n piece Unused is out fit far = record {
+    begun = refl;
+    file = record { output = λ e. refl; named = λ own other e ne. refl };
+    elsewhere = λ k ne. rw (get_or-set_other m.finished n k false false ne) refl;
+    later = omega arith;
+    slot = refl;
+    finished = λ e. not_finished n _ e;
+  }
+  writes-ok n piece (Reading v p q) is out fit far = record {
+    begun = refl;
+    file = record { output = λ e. refl; named = λ own other e ne. refl };
+    elsewhere = λ k ne. rw (get_or-set_other m.finished n k false false ne) refl;
+    later = omega arith;
+    slot = refl;
+    finished = λ e. not_finished n _ e;
+  }
+  writes-ok n piece (Writing v) is out fit far = record {
+    begun = refl;
+    file = record {
+      output = λ e. absurd (cc (out e));
+      named = λ own other e ne. let named : name_by N (usage_at U n) ≡ Some own = e in
+          let own_is : text_at N v ≡ own = cc (rw is at named) in file-more_other N T v piece other (λ same. ne (same ∙ own_is));
+    };
+    elsewhere = λ k ne. rw (
+      get_or-set_other m.finished n k false false ne,
+      given-more T v piece (usage_at U k) (fit k),
+      left-more T v piece (usage_at U k) (fit k),
+      sent-more T O v piece (usage_at U k) (rw is at (far n k (λ e. ne (sym e)))),
+      written-more T O v piece (usage_at U k) (rw is at (far n k (λ e. ne (sym e)))),
+    ) refl;
+    later = omega arith;
+    slot = rw is refl;
+    finished = λ e. not_finished n _ e;
+  }
+  writes-ok n piece Output is out fit far = record {
+    begun = refl;
+    file = record { output = λ e. refl; named = λ own other e ne. refl };
+    elsewhere = λ k ne. rw (
+      get_or-set_other m.finished n k false false ne,
+      sent-out T O piece (usage_at U k) (rw is at (far n k (λ e. ne (sym e)))),
+      written-out T O piece (usage_at U k) (rw is at (far n k (λ e. ne (sym e)))),
+    ) refl;
+    later = omega arith;
+    slot = refl;
+    finished = λ e. not_finished n _ e;
+  }
 
 pub grows-ok : (T : List (List ℕ)) (O : List ℕ) (u : Usage) (piece : List ℕ) → IsTrue (fits T u)
     → Grows (written_by T O u) (written_by (more_texts T u piece) (more_out O u piece) u) piece
@@ -168,6 +216,26 @@ grows-ok T O (Writing v) piece fit bytes e =
     let is : text_at T v ≡ bytes = cc in
     rw (get_or-set_same T v (text_at T v ++ piece) [] lt, is) refl
 grows-ok T O Output piece fit bytes e = cc
+
+can_write-sent : (T : List (List ℕ)) (O : List ℕ) (u : Usage) (n : ℕ) (piece : List ℕ) → IsTrue (n == 8 || writes_by u) → (n ≡ 8 → u ≡ Output) → IsTrue (fits T u)
+    → sent_by (more_texts T u piece) (more_out O u piece) u ≡ sent_by T O u ++ piece
+can_write-sent T O Unused n piece can out fit = absurd (clash (out (grind (arith, nat_tests))))
+  where
+    clash : Unused ≡ Output → ⊥
+    clash e = cc
+can_write-sent T O (Reading v p q) n piece can out fit = absurd (clash (out (grind (arith, nat_tests))))
+  where
+    clash : Reading v p q ≡ Output → ⊥
+    clash e = cc
+can_write-sent T O (Writing v) n piece can out fit =
+    let lt : v < length T = grind (arith, nat_tests) in get_or-set_same T v (text_at T v ++ piece) [] lt
+can_write-sent T O Output n piece can out fit = refl
+
+-- a slot that can be written was sent the piece
+pub sends-ok : (T : List (List ℕ)) (O : List ℕ) (u : Usage) (N : List (List ℕ)) (l k : LastRead) (e f : Bool) (i j n : ℕ) (piece : List ℕ)
+    → IsTrue (n == 8 || writes_by u) → (n ≡ 8 → u ≡ Output) → IsTrue (fits T u)
+    → Sends (state_by N T O u l e i) (state_by N (more_texts T u piece) (more_out O u piece) u k f j) piece
+sends-ok T O u N l k e f i j n piece can out fit = record { sent = can_write-sent T O u n piece can out fit; written = grows-ok T O u piece fit }
 
 drop-nil : (n : ℕ) → drop {A = ℕ} n [] ≡ []
 drop-nil zero = refl
@@ -213,9 +281,30 @@ moves-ok T U n v p q c piece buf was lt le none is len same = record {
         rw (usage-set_same U n (Reading v (p + c) q) lt) refl,
       );
   none = λ left h some zero.
-      let bytes : drop p (take q (text_at T v)) ≡ left = cc (rw was at h) in
-      sym bytes ∙ past p q (text_at T v) (none (omega arith) zero);
+      let bytes : drop (p + c) (take q (text_at T v)) ≡ left = cc (rw (usage-set_same U n (Reading v (p + c) q) lt) at h) in
+      sym bytes ∙ past (p + c) q (text_at T v) (end (none (omega arith) zero) zero);
 }
   where
+    end : p ≡ q → c ≡ 0 → p + c ≡ q
+    end e z = omega arith
+
     front : (piece : List ℕ) (c : ℕ) → length piece ≡ c → take c (piece ++ drop c buf) ≡ piece
     front piece c len = rw (← len) (take-append_seam piece (drop (length piece) buf))
+
+pub hands-ok : (N T : List (List ℕ)) (O : List ℕ) (b : ℕ) (U : List Usage) (m : Marks) (n v p q c : ℕ) (l : LastRead) (piece buf : List ℕ)
+    → usage_at U n ≡ Reading v p q → n < length U → n < length m.last → p + c ≤ q → (0 < length buf → c ≡ 0 → p ≡ q)
+    → piece ≡ take c (drop p (text_at T v)) → length piece ≡ c → length buf ≡ length (piece ++ drop c buf)
+    → ending_of l ≡ ending_after c (piece ++ drop c buf)
+    → Hands ((memory_outside N T O b U m).slot n) ((memory_outside N T O b (set U n (Reading v (p + c) q)) (record m { last = set m.last n l })).slot n) c (piece ++ drop c buf)
+hands-ok N T O b U m n v p q c l piece buf was lt lt_last le none is len same ends = record {
+  given = rw (usage-set_same U n (Reading v (p + c) q) lt, was, take-add p c (take q (text_at T v)), front) refl;
+  ending = rw (get_or-set_same m.last n l Fine lt_last) ends;
+  left = moves-ok T U n v p q c piece buf was lt le none is len same;
+}
+  where
+    front : take c (drop p (take q (text_at T v))) ≡ take c (piece ++ drop c buf)
+    front =
+        let first : take c (piece ++ drop c buf) ≡ piece = rw (← len) (take-append_seam piece (drop (length piece) buf)) in
+        let same : p + (q - p) ≡ q = omega arith in
+        let window : drop p (take q (text_at T v)) ≡ take (q - p) (drop p (text_at T v)) = rw same at (drop-take p (q - p) (text_at T v)) in
+        ap (take c) window ∙ take-less c (q - p) (drop p (text_at T v)) (omega arith) ∙ sym is ∙ sym first

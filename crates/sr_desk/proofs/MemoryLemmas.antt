@@ -7,7 +7,7 @@ use Rattle.std.proofs.lemmas.Bool.Decides.{nat_tests}
 use Rattle.std.proofs.lemmas.Slice.Eq.{bytes_eq-Decides}
 use Rattle.sr_desk.specs.declared.held.Usage.{Usage}
 use Rattle.sr_desk.specs.declared.held.Usage.TheVariants.{Unused, Reading, Writing, Output}
-use Rattle.sr_desk.specs.MemoryParts.{text_at, usage_at, last_below, latest, file_in, name_by, left_by, written_by, reads_by, fits, apart, AllFit, AllApart, AllUnused, more_texts}
+use Rattle.sr_desk.specs.MemoryParts.{text_at, usage_at, last_below, latest, file_in, name_by, given_by, left_by, sent_by, written_by, reads_by, fits, apart, AllFit, AllApart, AllUnused, more_texts}
 
 -- the slot that was changed, and the others
 pub usage-set : (uses : List Usage) (i : ℕ) (u : Usage) (n : ℕ) → (usage_at (set uses i u) n ≡ u) ⊎ (usage_at (set uses i u) n ≡ usage_at uses n)
@@ -89,6 +89,20 @@ left-push texts t (Reading v p q) h =
 left-push texts t (Writing v) h = refl
 left-push texts t Output h = refl
 
+pub given-push : (texts : List (List ℕ)) (t : List ℕ) (u : Usage) → IsTrue (fits texts u) → given_by (texts ++ t ∷ []) u ≡ given_by texts u
+given-push texts t Unused h = refl
+given-push texts t (Reading v p q) h =
+    let lt : v < length texts = grind (arith, nat_tests) in rw (get_or_append_left texts (t ∷ []) [] v lt) refl
+given-push texts t (Writing v) h = refl
+given-push texts t Output h = refl
+
+pub sent-push : (texts : List (List ℕ)) (out t : List ℕ) (u : Usage) → IsTrue (fits texts u) → sent_by (texts ++ t ∷ []) out u ≡ sent_by texts out u
+sent-push texts out t Unused h = refl
+sent-push texts out t (Reading v p q) h = refl
+sent-push texts out t (Writing v) h =
+    let lt : v < length texts = grind (arith, nat_tests) in rw (get_or_append_left texts (t ∷ []) [] v lt) refl
+sent-push texts out t Output h = refl
+
 pub written-push : (texts : List (List ℕ)) (out t : List ℕ) (u : Usage) → IsTrue (fits texts u) → written_by (texts ++ t ∷ []) out u ≡ written_by texts out u
 written-push texts out t Unused h = refl
 written-push texts out t (Reading v p q) h = refl
@@ -136,6 +150,31 @@ left-more texts w piece (Reading v p q) h =
     ]
 left-more texts w piece (Writing v) h = refl
 left-more texts w piece Output h = refl
+
+pub given-more : (texts : List (List ℕ)) (w : ℕ) (piece : List ℕ) (u : Usage) → IsTrue (fits texts u) → given_by (set texts w (text_at texts w ++ piece)) u ≡ given_by texts u
+given-more texts w piece Unused h = refl
+given-more texts w piece (Reading v p q) h =
+    let le : q ≤ length (text_at texts v) = grind (arith, nat_tests) in
+    elim (at_more texts w v piece) [
+      | inl e ↦ rw e refl
+      | inr e ↦ rw (e.1, take-append-le q (text_at texts v) piece le) refl
+    ]
+given-more texts w piece (Writing v) h = refl
+given-more texts w piece Output h = refl
+
+pub sent-more : (texts : List (List ℕ)) (out : List ℕ) (w : ℕ) (piece : List ℕ) (u : Usage) → IsTrue (apart (Writing w) u)
+    → sent_by (set texts w (text_at texts w ++ piece)) out u ≡ sent_by texts out u
+sent-more texts out w piece Unused h = refl
+sent-more texts out w piece (Reading v p q) h = refl
+sent-more texts out w piece (Writing v) h =
+    let ne : v ≢ w = grind (arith, nat_tests) in rw (get_or-set_other texts w v (text_at texts w ++ piece) [] ne) refl
+sent-more texts out w piece Output h = refl
+
+pub sent-out : (texts : List (List ℕ)) (out more : List ℕ) (u : Usage) → IsTrue (apart Output u) → sent_by texts (out ++ more) u ≡ sent_by texts out u
+sent-out texts out more Unused h = refl
+sent-out texts out more (Reading v p q) h = refl
+sent-out texts out more (Writing v) h = refl
+sent-out texts out more Output h = cc
 
 pub written-more : (texts : List (List ℕ)) (out : List ℕ) (w : ℕ) (piece : List ℕ) (u : Usage) → IsTrue (apart (Writing w) u)
     → written_by (set texts w (text_at texts w ++ piece)) out u ≡ written_by texts out u

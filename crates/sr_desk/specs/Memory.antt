@@ -39,7 +39,7 @@ pub record GrowsFile (n : ℕ) (old new : Memory) (sent : List ℕ) : Type 0 whe
   pub own : (name : List ℕ) → old.writes_file n name ≡ true → Grows (old.outside.file name) (new.outside.file name) sent
   pub others : (name : List ℕ) → old.writes_file n name ≡ false → new.outside.file name ≡ old.outside.file name
 
--- what was told to be left is moved as far as the buffer and the most allow
+-- what is known to be left is moved as far as the buffer and the most allow
 abbrev pub MovesMost : Memory → ℕ → ℕ → ℕ → Type 0
 MovesMost m n room moved = (left : List ℕ) → (m.outside.slot n).left ≡ Some left → moved ≡ min (min (length left) room) m.most
 
@@ -66,11 +66,14 @@ pub record IsFresh (o : Outside) : Type 0 where
   pub begun : o.begun ≡ 0
   pub printed : (o.slot 8).written ≡ Some []
   pub names : (n : ℕ) → n ≤ 8 → (o.slot n).name ≡ None
+  pub given : (n : ℕ) → n ≤ 8 → (o.slot n).given ≡ []
+  pub ending : (n : ℕ) → n ≤ 8 → (o.slot n).ending ≡ None
   pub left : (n : ℕ) → n ≤ 8 → (o.slot n).left ≡ None
+  pub sent : (n : ℕ) → n ≤ 8 → (o.slot n).sent ≡ []
   pub written : (n : ℕ) → n < 8 → (o.slot n).written ≡ None
   pub reads : (n : ℕ) → n ≤ 8 → (o.slot n).reads ≡ false
   pub writes : (n : ℕ) → n ≤ 8 → (o.slot n).writes ≡ false
-  pub ended : (n : ℕ) → n ≤ 8 → (o.slot n).ended ≡ false
+  pub finished : (n : ℕ) → n ≤ 8 → (o.slot n).finished ≡ false
 
 -- besides, no call was counted, and none is to fail
 pub record IsRestarted (m : Memory) : Type 0 where

@@ -3,6 +3,9 @@ use Rattle.std.specs.Prelude.{ℕ, zero, suc, ◌≢◌, ◌==◌, ◌&&◌, nat
 use Rattle.std.specs.Str.{bytes_eq}
 use Rattle.sr_desk.specs.Outside.{Outside, SlotState, Rose}
 use Rattle.sr_desk.specs.declared.held.Version.{Version}
+use Rattle.sr_desk.specs.LastReads.{ending_of}
+use Rattle.sr_desk.specs.declared.last_read.LastRead.{LastRead}
+use Rattle.sr_desk.specs.declared.last_read.LastRead.TheVariants.{Fine}
 use Rattle.sr_desk.specs.declared.held.Usage.{Usage}
 use Rattle.sr_desk.specs.declared.held.Usage.TheVariants.{Unused, Reading, Writing, Output}
 
@@ -36,6 +39,17 @@ abbrev pub left_by : List (List ℕ) → Usage → Option (List ℕ)
 left_by texts (Reading version place end) = Some (drop place (take end (text_at texts version)))
 left_by texts _ = None
 
+-- the bytes of it that were read
+abbrev pub given_by : List (List ℕ) → Usage → List ℕ
+given_by texts (Reading version place end) = take place (take end (text_at texts version))
+given_by texts _ = []
+
+-- the bytes that it wrote
+abbrev pub sent_by : List (List ℕ) → List ℕ → Usage → List ℕ
+sent_by texts out (Writing version) = text_at texts version
+sent_by texts out Output = out
+sent_by texts out _ = []
+
 abbrev pub written_by : List (List ℕ) → List ℕ → Usage → Option (List ℕ)
 written_by texts out (Writing version) = Some (text_at texts version)
 written_by texts out Output = Some out
@@ -58,24 +72,33 @@ abbrev pub writes_file_by : List (List ℕ) → Usage → List ℕ → Bool
 writes_file_by names (Writing version) name = is_version (latest names name) version
 writes_file_by names _ name = false
 
-abbrev pub state_by : List (List ℕ) → List (List ℕ) → List ℕ → Usage → Bool → ℕ → SlotState
-state_by names texts out usage ended faults = record {
+abbrev pub state_by : List (List ℕ) → List (List ℕ) → List ℕ → Usage → LastRead → Bool → ℕ → SlotState
+state_by names texts out usage last finished faults = record {
   name = name_by names usage;
+  given = given_by texts usage;
+  ending = ending_of last;
   left = left_by texts usage;
+  sent = sent_by texts out usage;
   written = written_by texts out usage;
   reads = reads_by usage;
   writes = writes_by usage;
-  ended = ended;
+  finished = finished;
   faults = faults;
 }
 
 abbrev pub usage_at : List Usage → ℕ → Usage
 usage_at uses n = slice_index_or uses n Unused
 
-abbrev pub memory_outside : List (List ℕ) → List (List ℕ) → List ℕ → ℕ → List Usage → List Bool → List ℕ → Outside
-memory_outside names texts out begun uses ended faults = record {
+-- how the last calls for reading ended, which slots are finished, and the counts of faults
+pub record Marks : Type 0 where
+  pub last : List LastRead
+  pub finished : List Bool
+  pub faults : List ℕ
+
+abbrev pub memory_outside : List (List ℕ) → List (List ℕ) → List ℕ → ℕ → List Usage → Marks → Outside
+memory_outside names texts out begun uses m = record {
   begun = begun;
-  slot = λ n. state_by names texts out (usage_at uses n) (slice_index_or ended n false) (slice_index_or faults n 0);
+  slot = λ n. state_by names texts out (usage_at uses n) (slice_index_or m.last n Fine) (slice_index_or m.finished n false) (slice_index_or m.faults n 0);
   file = file_in names texts;
 }
 

@@ -1,6 +1,9 @@
 -- What a contract sees of a reader.
-use Rattle.std.specs.Prelude.{◌≡◌, ℕ, ◌+◌, ◌-◌, ◌^◌, ◌≤◌, ◌<◌, Bool, List, [], ◌∷◌, length, take, drop, Option, Some}
+use Rattle.std.specs.Prelude.{◌≡◌, ◌≢◌, ℕ, ◌+◌, ◌-◌, ◌^◌, ◌≤◌, ◌<◌, ◌⊎◌, Bool, true, false, List, [], ◌∷◌, length, take, drop, Option, Some, None, Result, Ok, Err}
+use Rattle.sr_desk.specs.declared.reader.TheConstants.{CAPACITY}
 use Rattle.sr_desk.specs.declared.reader.ByteReader.TheInside.{Inside}
+use Rattle.sr_desk.specs.declared.reader.ReadError.{ReadError}
+use Rattle.sr_desk.specs.declared.reader.ReadError.TheVariants.{Fault, Limit}
 
 pub record Reader : Type 0 where
   pub slot : ℕ
@@ -13,6 +16,10 @@ pub record Reader : Type 0 where
   pub ended : Bool
   -- the bytes that were read from the slot and not yet taken
   pub ahead : List ℕ
+
+-- what comes next is known without a read: a byte is ahead, or the end was met
+abbrev pub IsAtHand : Reader → Type 0
+IsAtHand r = (r.ahead ≢ []) ⊎ (r.ended ≡ true)
 
 -- the last of some bytes, or what was last before them
 abbrev pub last_after : Option ℕ → List ℕ → Option ℕ
@@ -47,7 +54,21 @@ pub record IsReader (r : Inside) : Type 0 where
   pub at : r.at ≤ r.end
   pub end : r.end ≤ r.held
   pub held : r.held ≤ length r.buffer.items
-  pub room : 0 < length r.buffer.items
+  pub size : length r.buffer.items ≡ CAPACITY
   pub limit : r.before + r.end ≤ r.limit
   pub wide : r.limit < 2 ^ 64
   pub past : r.end < r.held → r.before + r.end ≡ r.limit
+  pub ended : r.ended ≡ true → r.at ≡ r.held
+
+-- the buffer was filled: bytes are ahead, or the end was met
+pub record IsFilled (old new : Reader) : Type 0 where
+  pub same : new ≡ record old { ended = new.ended; ahead = new.ahead }
+  pub ready : new.ended ≡ false → new.ahead ≢ []
+
+-- what the buffer gives
+abbrev pub Takes : Reader → Reader → Result (Option ℕ) ReadError → Type 0
+Takes old new (Ok (Some b)) = (old.taken < old.limit) × (old.ahead ≡ b ∷ new.ahead)
+    × (new ≡ record old { taken = old.taken + 1; last = Some b; ahead = new.ahead })
+Takes old new (Ok None) = (old.ahead ≡ []) × (new ≡ old)
+Takes old new (Err Limit) = (old.ahead ≢ []) × (old.taken ≡ old.limit) × (new ≡ old)
+Takes old new (Err Fault) = ⊥

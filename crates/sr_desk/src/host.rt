@@ -1,179 +1,212 @@
 // Real files and standard output.
-ghost use Rattle.std.specs.Prelude.{◌≡◌, ◌<◌, ◌≤◌, length, IfSome, IsTrue};
-ghost use Rattle.sr_desk.specs.Host.{host_outside, IsUnused, TellsNothing};
+ghost use Rattle.std.specs.Prelude.{◌≡◌, ◌<◌, ◌≤◌, ◌++◌, List, ℕ, length, take, [], ◌∷◌, IfSome, IsNone, IsTrue};
+ghost use Rattle.sr_desk.specs.Outside.{StaysKnown};
+ghost use Rattle.sr_desk.specs.Calls.{Moves, Grows};
+ghost use Rattle.sr_desk.specs.Host.{host_outside, left_in, held_in, no_targets, IsUnused};
 
-use crate::{Desk, Failed, Slot};
-use std::alloc::Allocator;
+use crate::history::History;
+use crate::last_read::{LastRead, after_read};
+use crate::steps::raise;
+use crate::target::Target;
+use crate::{CallError, Desk, Slot};
 use std::fs;
 use std::io::{self, Read, Write};
 use std::rt::Runtime;
 
-#[derive(Drop)]
-struct Opened<F> {
-    number: u8,
-    file: F,
-}
-
 /// Real files and standard output, through the runtime.
+///
+/// Contracts see the bytes that were read and written, and what the runtime's files tell beside
+/// them. The files of the system tell nothing: that they hand out what they hold, and hold what they
+/// take, is trusted.
 #[derive(Drop)]
 pub struct HostDesk<R: Runtime> {
     rt: R,
-    files: Vec<Opened<R::File>, R::A>,
+    sources: [Option<R::File>; 9],
+    targets: [Target<R::File>; 9],
     begun: u8,
     reads: [bool; 9],
     writes: [bool; 9],
-    ended: [bool; 9],
+    finished: [bool; 9],
+    last: [LastRead; 9],
     faults: [u64; 9],
+    given: [History; 9],
+    sent: [History; 9],
 }
 
 impl<R: Runtime> HostDesk<R> {
     pub fn new(rt: R) -> HostDesk<R>
-        ensures unused { IsUnused (⟦<HostDesk<R> as Desk>⟧.outside result) }
-        ensures untold { TellsNothing (⟦<HostDesk<R> as Desk>⟧.outside result) }
+        ensures { IsUnused (⟦<HostDesk<R> as Desk>⟧.outside result) }
     {
-        let alloc = rt.alloc();
         HostDesk {
             rt,
-            files: Vec::new(alloc),
+            sources: [None, None, None, None, None, None, None, None, None],
+            targets: targets(),
             begun: 0,
             reads: [false; 9],
             writes: [false; 9],
-            ended: [false; 9],
+            finished: [false; 9],
+            last: [LastRead::Fine; 9],
             faults: [0; 9],
+            given: no_bytes(),
+            sent: no_bytes(),
         }
     }
 }
 
 impl<R: Runtime> Desk for HostDesk<R> {
-    ghost outside = { λ d. host_outside d.begun d.reads d.writes d.ended d.faults };
+    ghost outside = { λ d. host_outside R.File.remaining R.File.contents record {
+      begun = d.begun;
+      reads = d.reads;
+      writes = d.writes;
+      finished = d.finished;
+      last = d.last;
+      faults = d.faults;
+      given = d.given;
+      sent = d.sent;
+      sources = d.sources;
+      targets = d.targets;
+    } };
 
-    fn begin_read(&mut self, name: &str) -> Result<Slot, Failed> {
+    fn begin_read(&mut self, name: &str) -> Result<Slot, CallError> {
         let slot = Slot { number: self.begun };
+        let n = slot.number as usize;
         self.begun += 1;
-        if let Ok(file) = fs::open(&self.rt, name) {
-            let number = slot.number;
-            if self.files.push(Opened { number, file }).is_ok() {
-                self.reads[slot.number as usize] = true;
-                return Ok(slot);
+        self.given[n] = History::new();
+        match fs::open(&self.rt, name) {
+            Ok(file) => {
+                self.sources[n] = Some(file);
+                self.reads[n] = true;
+                self.last[n] = LastRead::Fine;
+                Ok(slot)
+            }
+            Err(_) => {
+                self.last[n] = LastRead::Failed;
+                Err(raise(&mut self.faults, slot))
             }
         }
-        self.faults[slot.number as usize] = self.faults[slot.number as usize].saturating_add(1);
-        Err(Failed)
     }
 
-    fn begin_write(&mut self, name: &str) -> Result<Slot, Failed> {
+    fn begin_write(&mut self, name: &str) -> Result<Slot, CallError> {
         let slot = Slot { number: self.begun };
+        let n = slot.number as usize;
         self.begun += 1;
-        if let Ok(file) = fs::create(&self.rt, name) {
-            let number = slot.number;
-            if self.files.push(Opened { number, file }).is_ok() {
-                self.writes[slot.number as usize] = true;
-                self.ended[slot.number as usize] = false;
-                return Ok(slot);
+        match fs::create(&self.rt, name) {
+            Ok(file) => {
+                self.targets[n] = Target::File(file);
+                self.writes[n] = true;
+                self.finished[n] = false;
+                self.sent[n] = History::new();
+                Ok(slot)
             }
+            Err(_) => Err(raise(&mut self.faults, slot)),
         }
-        self.faults[slot.number as usize] = self.faults[slot.number as usize].saturating_add(1);
-        Err(Failed)
     }
 
-    fn read(&mut self, slot: Slot, buf: &mut [u8]) -> Result<usize, Failed> {
-        match read_from(&mut self.files, slot.number, buf) {
-            Some(count) => Ok(count),
+    fn read(&mut self, slot: Slot, buf: &mut [u8]) -> Result<usize, CallError> {
+        let n = slot.number as usize;
+        match read_from(&mut self.sources[n], buf) {
+            Some(count) => {
+                self.given[n].add(&buf[..count]);
+                self.last[n] = after_read(count, buf);
+                Ok(count)
+            }
             None => {
-                self.faults[slot.number as usize] =
-                    self.faults[slot.number as usize].saturating_add(1);
-                Err(Failed)
+                self.last[n] = LastRead::Failed;
+                Err(raise(&mut self.faults, slot))
             }
         }
     }
 
-    fn write(&mut self, slot: Slot, piece: &[u8]) -> Result<usize, Failed> {
-        self.ended[slot.number as usize] = false;
-        match write_to(&self.rt, &mut self.files, slot.number, piece) {
-            Some(count) => Ok(count),
-            None => {
-                self.faults[slot.number as usize] =
-                    self.faults[slot.number as usize].saturating_add(1);
-                Err(Failed)
+    fn write(&mut self, slot: Slot, piece: &[u8]) -> Result<usize, CallError> {
+        let n = slot.number as usize;
+        self.finished[n] = false;
+        match write_to(&mut self.targets[n], &self.rt, piece) {
+            Some(count) => {
+                self.sent[n].add(&piece[..count]);
+                Ok(count)
             }
+            None => Err(raise(&mut self.faults, slot)),
         }
     }
 
-    fn finish(&mut self, slot: Slot) -> Result<(), Failed> {
-        if finish_in(&self.rt, &mut self.files, slot.number) {
-            self.ended[slot.number as usize] = true;
-            return Ok(());
+    fn finish(&mut self, slot: Slot) -> Result<(), CallError> {
+        let n = slot.number as usize;
+        if !flush(&mut self.targets[n], &self.rt) {
+            return Err(raise(&mut self.faults, slot));
         }
-        self.faults[slot.number as usize] = self.faults[slot.number as usize].saturating_add(1);
-        Err(Failed)
+        self.finished[n] = true;
+        Ok(())
     }
 }
 
-/// How many bytes the file with this number gave, or none where it failed.
-fn read_from<F: Read, A: Allocator>(
-    files: &mut Vec<Opened<F>, A>,
-    number: u8,
-    buf: &mut [u8],
-) -> Option<usize>
-    ensures { IfSome result (λ n. n ≤ length buf.new) }
+fn targets<F>() -> [Target<F>; 9]
+    ensures { result ≡ no_targets }
 {
-    for opened in files.iter_mut() {
-        if opened.number == number {
-            return opened.file.read(buf).ok();
-        }
+    [
+        Target::Nothing,
+        Target::Nothing,
+        Target::Nothing,
+        Target::Nothing,
+        Target::Nothing,
+        Target::Nothing,
+        Target::Nothing,
+        Target::Nothing,
+        Target::Output,
+    ]
+}
+
+fn no_bytes() -> [History; 9]
+    ensures { result ≡ [] ∷ [] ∷ [] ∷ [] ∷ [] ∷ [] ∷ [] ∷ [] ∷ [] ∷ [] }
+{
+    [
+        History::new(),
+        History::new(),
+        History::new(),
+        History::new(),
+        History::new(),
+        History::new(),
+        History::new(),
+        History::new(),
+        History::new(),
+    ]
+}
+
+/// How many bytes a file gave, or none where it failed.
+fn read_from<F: Read>(file: &mut Option<F>, buf: &mut [u8]) -> Option<usize>
+    ensures within { IfSome result (λ n. n ≤ length buf.new) }
+    ensures some { IfSome result (λ n. Moves (left_in F.remaining file.old) (left_in F.remaining file.new) n buf.new) }
+    ensures none { IsNone result → StaysKnown (left_in F.remaining file.old) (left_in F.remaining file.new) }
+{
+    match file {
+        Some(open) => open.read(buf).ok(),
+        None => None,
     }
-    None
 }
 
 /// How many bytes were taken, at least one of a piece that isn't empty, or none where it failed.
-fn write_to<R: Print, F: Write, A: Allocator>(
-    rt: &R,
-    files: &mut Vec<Opened<F>, A>,
-    number: u8,
-    piece: &[u8],
-) -> Option<usize>
+fn write_to<R: Print, F: Write>(target: &mut Target<F>, rt: &R, piece: &[u8]) -> Option<usize>
     ensures within { IfSome result (λ n. n ≤ length piece.now) }
     ensures some { IfSome result (λ n. 0 < length piece.now → 0 < n) }
+    ensures told { IfSome result (λ n. Grows (held_in F.contents target.old) (held_in F.contents target.new) (take n piece.now)) }
+    ensures none { IsNone result → StaysKnown (held_in F.contents target.old) (held_in F.contents target.new) }
 {
-    let count = write_some(rt, files, number, piece)?;
-    if count == 0 && !piece.is_empty() {
-        None
-    } else {
-        Some(count)
+    let result = match target {
+        Target::File(open) => open.write(piece),
+        Target::Output => io::writer(rt).write(piece),
+        Target::Nothing => return None,
+    };
+    match result {
+        Ok(count) if count > 0 || piece.is_empty() => Some(count),
+        _ => None,
     }
 }
 
-fn write_some<R: Print, F: Write, A: Allocator>(
-    rt: &R,
-    files: &mut Vec<Opened<F>, A>,
-    number: u8,
-    piece: &[u8],
-) -> Option<usize>
-    ensures { IfSome result (λ n. n ≤ length piece.now) }
+fn flush<R: Print, F: Write>(target: &mut Target<F>, rt: &R) -> bool
+    ensures { StaysKnown (held_in F.contents target.old) (held_in F.contents target.new) }
 {
-    if number == 8 {
-        return io::writer(rt).write(piece).ok();
+    match target {
+        Target::File(open) => open.flush().is_ok(),
+        Target::Output => io::writer(rt).flush().is_ok(),
+        Target::Nothing => false,
     }
-    for opened in files.iter_mut() {
-        if opened.number == number {
-            return opened.file.write(piece).ok();
-        }
-    }
-    None
-}
-
-fn finish_in<R: Print, F: Write, A: Allocator>(
-    rt: &R,
-    files: &mut Vec<Opened<F>, A>,
-    number: u8,
-) -> bool {
-    if number == 8 {
-        return io::writer(rt).flush().is_ok();
-    }
-    for opened in files.iter_mut() {
-        if opened.number == number {
-            return opened.file.flush().is_ok();
-        }
-    }
-    false
 }

@@ -5,17 +5,18 @@ ghost use Rattle.sr_desk.specs.declared.held.Usage.TheVariants.{Output};
 
 use crate::find::find;
 use crate::held::{Usage, Version};
+use crate::last_read::{LastRead, after_read};
 use crate::refusals::Refusals;
 use crate::steps::{add, append, copy_text, raise, text, text_len};
-use crate::{CallKind, Desk, Failed, Slot};
+use crate::{CallError, CallKind, Desk, Slot};
 use sr_base::NoMemory;
 use std::alloc::Global;
 
-/// Files and standard output in memory. It tells all its bytes.
+/// Files and standard output in memory. All bytes are known.
 ///
 /// Its reads and writes move few bytes at once, and its calls fail, where it is told so. Besides,
-/// `begin_read` fails for a name that isn't known, and `begin_write` and `write` may fail for want
-/// of memory. What is written to the slot that was begun last with a name is the file of that name,
+/// `begin_read` fails for a name that isn't known, and `begin_write` and `write` may fail where memory
+/// runs out. What is written to the slot that was begun last with a name is the file of that name,
 /// unless [`MemoryDesk::put_file`] has put another in its place.
 #[derive(Drop)]
 pub struct MemoryDesk {
@@ -24,7 +25,8 @@ pub struct MemoryDesk {
     out: Vec<u8>,
     begun: u8,
     uses: [Usage; 9],
-    ended: [bool; 9],
+    last: [LastRead; 9],
+    finished: [bool; 9],
     faults: [u64; 9],
     most: usize,
     refusals: Refusals,
@@ -39,14 +41,14 @@ impl Desk for MemoryDesk {
     ghost use Rattle.std.specs.Prelude.{◌≡◌, ◌<◌, ◌≤◌, false, length, take, min, IsTrue, IfOk, OnOk, OnErr, IsErr, is_err, is_none, ◌||◌};
     ghost use Rattle.std.specs.Bool.{OnTrue};
     ghost use Rattle.sr_desk.specs.Outside.{OnlyReads, OnlyWrites, HasCause, can_write};
-    ghost use Rattle.sr_desk.specs.Calls.{BeginsRead, BeginsWrite, ReadMoves, WriteAppends, Finishes};
+    ghost use Rattle.sr_desk.specs.Calls.{BeginsRead, BeginsWrite, ReadHands, WriteAppends, Finishes};
     ghost use Rattle.sr_desk.specs.Memory.{is_due, Counts, EmptiesFile, GrowsFile, MovesMost};
     ghost use Rattle.sr_desk.specs.MemoryView.{outside_of, memory_of};
 
     ghost outside = { outside_of };
 
     /// Fails exactly where it is refused or the name isn't known.
-    fn begin_read(&mut self, name: &str) -> Result<Slot, Failed>
+    fn begin_read(&mut self, name: &str) -> Result<Slot, CallError>
         requires { (outside_of self.old).begun < 8 }
         ensures begins { BeginsRead (outside_of self.old) (outside_of self.new) name.now result }
         ensures cause { HasCause (outside_of self.old).begun (outside_of self.old) (outside_of self.new) result }
@@ -57,10 +59,14 @@ impl Desk for MemoryDesk {
         let slot = Slot { number: self.begun };
         self.begun += 1;
         if self.refusals.due(CallKind::BeginRead) {
+            self.last[slot.number as usize] = LastRead::Failed;
             return Err(raise(&mut self.faults, slot));
         }
         match find(&self.versions, name.as_bytes()) {
-            None => Err(raise(&mut self.faults, slot)),
+            None => {
+                self.last[slot.number as usize] = LastRead::Failed;
+                Err(raise(&mut self.faults, slot))
+            }
             Some(version) => {
                 let end = text_len(&self.versions, version);
                 self.uses[slot.number as usize] = Usage::Reading {
@@ -68,13 +74,14 @@ impl Desk for MemoryDesk {
                     place: 0,
                     end,
                 };
+                self.last[slot.number as usize] = LastRead::Fine;
                 Ok(slot)
             }
         }
     }
 
-    /// Fails where it is refused, and for want of memory.
-    fn begin_write(&mut self, name: &str) -> Result<Slot, Failed>
+    /// Fails where it is refused, and where memory runs out.
+    fn begin_write(&mut self, name: &str) -> Result<Slot, CallError>
         requires { (outside_of self.old).begun < 8 }
         ensures begins { BeginsWrite (outside_of self.old) (outside_of self.new) name.now result }
         ensures cause { HasCause (outside_of self.old).begun (outside_of self.old) (outside_of self.new) result }
@@ -93,19 +100,18 @@ impl Desk for MemoryDesk {
             Err(_) => Err(raise(&mut self.faults, slot)),
             Ok(version) => {
                 self.uses[slot.number as usize] = Usage::Writing { version };
-                self.ended[slot.number as usize] = false;
+                self.finished[slot.number as usize] = false;
                 Ok(slot)
             }
         }
     }
 
     /// Fails exactly where it is refused.
-    fn read(&mut self, slot: Slot, buf: &mut [u8]) -> Result<usize, Failed>
+    fn read(&mut self, slot: Slot, buf: &mut [u8]) -> Result<usize, CallError>
         requires { IsTrue ((outside_of self.old).slot slot.number).reads }
         ensures within { IfOk result (λ n. n ≤ length buf.new) }
         ensures only { OnlyReads slot.number (outside_of self.old) (outside_of self.new) }
-        ensures bytes { ReadMoves ((outside_of self.old).slot slot.number).left
-            ((outside_of self.new).slot slot.number).left result buf.new }
+        ensures bytes { ReadHands ((outside_of self.old).slot slot.number) ((outside_of self.new).slot slot.number) result buf.new }
         ensures cause { HasCause slot.number (outside_of self.old) (outside_of self.new) result }
         ensures fails { is_err result ≡ is_due (memory_of self.old) CallKind.Read }
         ensures count { IfOk result (λ n. MovesMost (memory_of self.old) slot.number (length buf.new) n) }
@@ -113,6 +119,7 @@ impl Desk for MemoryDesk {
         ensures owners { (memory_of self.new).writes_file ≡ (memory_of self.old).writes_file }
     {
         if self.refusals.due(CallKind::Read) {
+            self.last[slot.number as usize] = LastRead::Failed;
             return Err(raise(&mut self.faults, slot));
         }
         match self.uses[slot.number as usize] {
@@ -128,20 +135,20 @@ impl Desk for MemoryDesk {
                     place: place + count,
                     end,
                 };
+                self.last[slot.number as usize] = after_read(count, buf);
                 Ok(count)
             }
             _ => unreachable!(),
         }
     }
 
-    /// Fails where it is refused, and for want of memory.
-    fn write(&mut self, slot: Slot, piece: &[u8]) -> Result<usize, Failed>
+    /// Fails where it is refused, and where memory runs out.
+    fn write(&mut self, slot: Slot, piece: &[u8]) -> Result<usize, CallError>
         requires { IsTrue (can_write (outside_of self.old) slot.number) }
         ensures within { IfOk result (λ n. n ≤ length piece.now) }
         ensures only { OnlyWrites slot.number (outside_of self.old) (outside_of self.new) }
-        ensures bytes { WriteAppends ((outside_of self.old).slot slot.number).written
-            ((outside_of self.new).slot slot.number).written result piece.now }
-        ensures ended { ((outside_of self.new).slot slot.number).ended ≡ false }
+        ensures bytes { WriteAppends ((outside_of self.old).slot slot.number) ((outside_of self.new).slot slot.number) result piece.now }
+        ensures finished { ((outside_of self.new).slot slot.number).finished ≡ false }
         ensures cause { HasCause slot.number (outside_of self.old) (outside_of self.new) result }
         ensures refused { OnTrue (is_due (memory_of self.old) CallKind.Write) (IsErr result) }
         ensures count { IfOk result (λ n. n ≡ min (length piece.now) (memory_of self.old).most) }
@@ -150,7 +157,7 @@ impl Desk for MemoryDesk {
         ensures files { OnErr result ((outside_of self.new).file ≡ (outside_of self.old).file) }
         ensures owners { (memory_of self.new).writes_file ≡ (memory_of self.old).writes_file }
     {
-        self.ended[slot.number as usize] = false;
+        self.finished[slot.number as usize] = false;
         if self.refusals.due(CallKind::Write) {
             return Err(raise(&mut self.faults, slot));
         }
@@ -163,7 +170,7 @@ impl Desk for MemoryDesk {
     }
 
     /// Fails exactly where it is refused.
-    fn finish(&mut self, slot: Slot) -> Result<(), Failed>
+    fn finish(&mut self, slot: Slot) -> Result<(), CallError>
         requires { IsTrue (can_write (outside_of self.old) slot.number) }
         ensures finishes { Finishes slot.number (outside_of self.old) (outside_of self.new) result }
         ensures cause { HasCause slot.number (outside_of self.old) (outside_of self.new) result }
@@ -174,7 +181,7 @@ impl Desk for MemoryDesk {
         if self.refusals.due(CallKind::Finish) {
             return Err(raise(&mut self.faults, slot));
         }
-        self.ended[slot.number as usize] = true;
+        self.finished[slot.number as usize] = true;
         Ok(())
     }
 }
@@ -195,7 +202,8 @@ impl MemoryDesk {
             out: Vec::new(alloc),
             begun: 0,
             uses: FRESH,
-            ended: [false; 9],
+            last: [LastRead::Fine; 9],
+            finished: [false; 9],
             faults: [0; 9],
             most: usize::MAX,
             refusals: Refusals::new(alloc),
@@ -208,7 +216,10 @@ impl MemoryDesk {
         ensures ok { OnOk result (PutsFile (memory_of self.old) (memory_of self.new) name.now bytes.now) }
         ensures err { OnErr result (SameOutside (outside_of self.old) (outside_of self.new)) }
         ensures owners { OnErr result ((memory_of self.new).writes_file ≡ (memory_of self.old).writes_file) }
-        ensures rest { memory_of self.new ≡ record (memory_of self.old) { outside = outside_of self.new; writes_file = (memory_of self.new).writes_file } }
+        ensures rest { memory_of self.new ≡ record (memory_of self.old) {
+          outside = outside_of self.new;
+          writes_file = (memory_of self.new).writes_file;
+        } }
     {
         match add(self.alloc, &mut self.versions, name.as_bytes(), bytes) {
             Ok(_) => Ok(()),
@@ -267,7 +278,8 @@ impl MemoryDesk {
     {
         self.begun = 0;
         self.uses = FRESH;
-        self.ended = [false; 9];
+        self.last = [LastRead::Fine; 9];
+        self.finished = [false; 9];
         self.out.clear();
         self.refusals.clear();
     }

@@ -1,10 +1,9 @@
 // Bytes in the order of a file, through a buffer of 64 KiB.
 //
 // The limit is applied where the buffer is filled, so taking a byte is one test and one load.
-ghost use Rattle.std.specs.Prelude.{◌≡◌, ◌≤◌, [], false, ◌<◌, ◌^◌, ◌↔◌, length, IsTrue, IfOk, OnOk, OnErr, None};
-ghost use Rattle.sr_desk.specs.Outside.{OnlyReads, HasCause};
-ghost use Rattle.sr_desk.specs.Reader.{buffered, skipped};
-ghost use Rattle.sr_desk.specs.Next.{Fills, Next, Gives, HasFaultCause, IsSameReader};
+ghost use Rattle.std.specs.Prelude.{◌≡◌, ◌≤◌, [], true, false, ◌<◌, ◌^◌, ◌↔◌, length, IsTrue, IfOk, OnOk, OnErr, None, is_err};
+ghost use Rattle.sr_desk.specs.Reader.{buffered, skipped, IsAtHand, IsFilled, Takes};
+ghost use Rattle.sr_desk.specs.Next.{Next, Reads, Stands, MeetsFault, IsSameReader, is_read_fault};
 
 use crate::{Desk, Slot};
 use sr_base::NoMemory;
@@ -12,11 +11,12 @@ use std::alloc::Global;
 use std::marker::Model;
 use thiserror::Error;
 
+/// The size of the buffer.
 const CAPACITY: usize = 65_536;
 
 /// Why no byte was given.
 #[derive(Clone, Copy, Debug, PartialEq, Eq, Error)]
-pub enum ReadStop {
+pub enum ReadError {
     /// A read failed, and the count of faults of its slot says so.
     #[error("reading failed")]
     Fault,
@@ -25,9 +25,10 @@ pub enum ReadStop {
     Limit,
 }
 
-/// Gives the bytes of a slot in order, up to a limit.
+/// Gives the bytes of a slot in order, up to a limit, through a buffer of fixed size. It reads only
+/// where all bytes of the buffer were taken.
 ///
-/// After an error it isn't used again.
+/// After a read that failed it isn't used again.
 #[derive(Drop)]
 pub struct ByteReader {
     slot: Slot,
@@ -117,15 +118,16 @@ impl ByteReader {
     ///
     /// # Errors
     ///
-    /// [`ReadStop::Fault`] only where a read failed, and [`ReadStop::Limit`] exactly where the
-    /// limit's bytes were taken and another byte was read.
+    /// [`ReadError::Fault`] where a read failed, and [`ReadError::Limit`] where the limit's bytes were
+    /// taken and there is another.
     #[inline]
-    pub fn next<D: Desk>(&mut self, desk: &mut D) -> Result<Option<u8>, ReadStop>
-        requires { IsTrue ((D.outside desk.old).slot self.old.slot).reads }
-        ensures next { Next self.old self.new (D.outside desk.old) (D.outside desk.new) result }
-        ensures same { IsSameReader self.old self.new }
-        ensures only { OnlyReads self.old.slot (D.outside desk.old) (D.outside desk.new) }
-        ensures cause { HasFaultCause self.old.slot (D.outside desk.old) (D.outside desk.new) result }
+    pub fn next<D: Desk>(&mut self, desk: &mut D) -> Result<Option<u8>, ReadError>
+        requires { Stands self.old (D.outside desk.old) }
+        ensures next { Next self.old self.new (D.outside desk.new) result }
+        ensures reads { Reads self.old self.new (D.outside desk.old) (D.outside desk.new) (is_read_fault result) }
+        ensures again { self.old.ended ≡ true → (result ≡ Ok None) × (self.new ≡ self.old) }
+        ensures untouched { IsAtHand self.old → desk.new ≡ desk.old }
+        ensures size { length self.new.ahead ≤ CAPACITY }
     {
         if self.at < self.end {
             let byte = self.buffer[self.at];
@@ -138,25 +140,28 @@ impl ByteReader {
     /// The next byte, where none may be at hand.
     #[cold]
     #[inline(never)]
-    fn next_read<D: Desk>(&mut self, desk: &mut D) -> Result<Option<u8>, ReadStop>
-        requires { IsTrue ((D.outside desk.old).slot self.old.slot).reads }
-        ensures next { Next self.old self.new (D.outside desk.old) (D.outside desk.new) result }
-        ensures same { IsSameReader self.old self.new }
-        ensures only { OnlyReads self.old.slot (D.outside desk.old) (D.outside desk.new) }
-        ensures cause { HasFaultCause self.old.slot (D.outside desk.old) (D.outside desk.new) result }
+    fn next_read<D: Desk>(&mut self, desk: &mut D) -> Result<Option<u8>, ReadError>
+        requires { Stands self.old (D.outside desk.old) }
+        ensures next { Next self.old self.new (D.outside desk.new) result }
+        ensures reads { Reads self.old self.new (D.outside desk.old) (D.outside desk.new) (is_read_fault result) }
+        ensures again { self.old.ended ≡ true → (result ≡ Ok None) × (self.new ≡ self.old) }
+        ensures untouched { IsAtHand self.old → desk.new ≡ desk.old }
+        ensures size { length self.new.ahead ≤ CAPACITY }
     {
         self.ready(desk)?;
         self.take()
     }
 
     /// Sees to it that there is an answer to give.
-    fn ready<D: Desk>(&mut self, desk: &mut D) -> Result<(), ReadStop>
-        requires { IsTrue ((D.outside desk.old).slot self.old.slot).reads }
-        ensures ok { OnOk result (Fills self.old self.new (D.outside desk.old) (D.outside desk.new)) }
-        ensures err { OnErr result (result ≡ Err ReadStop.Fault) }
-        ensures same { IsSameReader self.old self.new }
-        ensures only { OnlyReads self.old.slot (D.outside desk.old) (D.outside desk.new) }
-        ensures cause { HasCause self.old.slot (D.outside desk.old) (D.outside desk.new) result }
+    fn ready<D: Desk>(&mut self, desk: &mut D) -> Result<(), ReadError>
+        requires { Stands self.old (D.outside desk.old) }
+        ensures ok { OnOk result (IsFilled self.old self.new) }
+        ensures err { OnErr result (MeetsFault self.old self.new (D.outside desk.new)) }
+        ensures fault { OnErr result (result ≡ Err ReadError.Fault) }
+        ensures reads { Reads self.old self.new (D.outside desk.old) (D.outside desk.new) (is_err result) }
+        ensures kept { IsAtHand self.old → (result ≡ Ok tt) × (self.new ≡ self.old) }
+        ensures untouched { IsAtHand self.old → desk.new ≡ desk.old }
+        ensures size { length self.new.ahead ≤ CAPACITY }
     {
         if self.is_drained() {
             self.fill(desk)
@@ -167,21 +172,22 @@ impl ByteReader {
 
     /// Whether the buffer has nothing more to tell.
     fn is_drained(&self) -> bool
-        ensures { IsTrue result ↔ ((self.now.ahead ≡ []) × (self.now.ended ≡ false)) }
+        ensures drained { IsTrue result ↔ ((self.now.ahead ≡ []) × (self.now.ended ≡ false)) }
+        ensures size { length self.now.ahead ≤ CAPACITY }
     {
         self.at == self.held && !self.ended
     }
 
     /// Reads into the buffer, of which all was taken.
-    fn fill<D: Desk>(&mut self, desk: &mut D) -> Result<(), ReadStop>
-        requires reads { IsTrue ((D.outside desk.old).slot self.old.slot).reads }
+    fn fill<D: Desk>(&mut self, desk: &mut D) -> Result<(), ReadError>
+        requires stands { Stands self.old (D.outside desk.old) }
         requires empty { self.old.ahead ≡ [] }
         requires going { self.old.ended ≡ false }
-        ensures ok { OnOk result (Fills self.old self.new (D.outside desk.old) (D.outside desk.new)) }
-        ensures err { OnErr result (result ≡ Err ReadStop.Fault) }
-        ensures same { IsSameReader self.old self.new }
-        ensures only { OnlyReads self.old.slot (D.outside desk.old) (D.outside desk.new) }
-        ensures cause { HasCause self.old.slot (D.outside desk.old) (D.outside desk.new) result }
+        ensures ok { OnOk result (IsFilled self.old self.new) }
+        ensures err { OnErr result (MeetsFault self.old self.new (D.outside desk.new)) }
+        ensures fault { OnErr result (result ≡ Err ReadError.Fault) }
+        ensures reads { Reads self.old self.new (D.outside desk.old) (D.outside desk.new) (is_err result) }
+        ensures size { length self.new.ahead ≤ CAPACITY }
     {
         self.previous = self.last();
         self.before += self.at as u64;
@@ -195,14 +201,16 @@ impl ByteReader {
                 self.ended = count == 0;
                 Ok(())
             }
-            Err(_) => Err(ReadStop::Fault),
+            Err(_) => Err(ReadError::Fault),
         }
     }
 
     /// Takes a byte of the buffer, which has one where the end wasn't met.
-    fn take(&mut self) -> Result<Option<u8>, ReadStop>
-        ensures gives { Gives self.old self.new result }
+    fn take(&mut self) -> Result<Option<u8>, ReadError>
+        ensures takes { Takes self.old self.new result }
+        ensures again { self.old.ended ≡ true → (result ≡ Ok None) × (self.new ≡ self.old) }
         ensures same { IsSameReader self.old self.new }
+        ensures size { length self.new.ahead ≤ CAPACITY }
     {
         if self.at < self.end {
             let byte = self.buffer[self.at];
@@ -210,7 +218,7 @@ impl ByteReader {
             return Ok(Some(byte));
         }
         if self.end < self.held {
-            return Err(ReadStop::Limit);
+            return Err(ReadError::Limit);
         }
         Ok(None)
     }

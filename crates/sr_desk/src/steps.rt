@@ -3,17 +3,17 @@ ghost use Rattle.std.specs.Prelude.{◌≡◌, ◌++◌, ◌∷◌, [], IsTrue, 
 ghost use Rattle.sr_desk.specs.MemoryParts.{Raises, names_of, texts_of, text_at, fits, more_texts, more_out};
 
 use crate::held::{Usage, Version};
-use crate::{Failed, Slot};
+use crate::{CallError, Slot};
 use sr_base::NoMemory;
 use std::alloc::Global;
 
 /// Counts a fault of a slot.
-pub(crate) fn raise(faults: &mut [u64; 9], slot: Slot) -> Failed
+pub(crate) fn raise(faults: &mut [u64; 9], slot: Slot) -> CallError
     ensures { Raises slot.number faults.old faults.new }
 {
     let n = slot.number as usize;
     faults[n] = faults[n].saturating_add(1);
-    Failed
+    CallError
 }
 
 /// Adds a version of a file, and says which it is.
@@ -90,7 +90,8 @@ pub(crate) fn append(
 ) -> Result<(), NoMemory>
     requires { IsTrue (fits (texts_of versions.old.items) usage) }
     ensures names { names_of versions.new.items ≡ names_of versions.old.items }
-    ensures texts { texts_of versions.new.items ≡ (if is_ok result then more_texts (texts_of versions.old.items) usage piece.now else texts_of versions.old.items) }
+    ensures texts { texts_of versions.new.items ≡ (if is_ok result then more_texts (texts_of versions.old.items) usage piece.now
+        else texts_of versions.old.items) }
     ensures out { out.new.items ≡ (if is_ok result then more_out out.old.items usage piece.now else out.old.items) }
 {
     match usage {

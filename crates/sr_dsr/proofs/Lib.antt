@@ -1,4 +1,3 @@
 pub mod FrameLemmas
 pub mod BeginLemmas
-pub mod FrontLemmas
 pub mod WriteLemmas

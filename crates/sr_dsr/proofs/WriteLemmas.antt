@@ -12,8 +12,8 @@ use Rattle.sr_lemma.specs.declared.lemma.Lemma as lemma
 use Rattle.sr_lemma.specs.declared.lemma.DsrLine.{DsrLine}
 use Rattle.sr_lemma.specs.declared.lemma.DsrLine.TheVariants.{Add, Del}
 use Rattle.sr_lemma.specs.Lines.{lemma_told, line_of}
-use Rattle.sr_lemma.specs.Written.{written_numbers, written_end}
-use Rattle.sr_lemma.proofs.WriteLemmas.{spaced_is}
+use Rattle.sr_scan.specs.Written.{written_numbers, written_end}
+use Rattle.sr_scan.proofs.WriteLemmas.{spaced_is}
 use Rattle.sr_dsr.specs.Written.{written_start}
 
 -- lemmas and deletions

@@ -1,89 +1,82 @@
 -- What reading a line gives.
 use Rattle.std.specs.Prelude.{ℕ, ◌≡◌, ◌-◌, ◌<◌, List, [], Option, Some, None, Result, Ok, Err}
+use Rattle.sr_base.specs.Contents.{Contents}
 use Rattle.sr_base.specs.Literal.{Literal, distinct}
 use Rattle.sr_base.specs.Limits.{LimitValues}
 use Rattle.sr_base.specs.declared.names.Form.{Form}
 use Rattle.sr_base.specs.declared.names.LimitKind.TheVariants as limit
+use Rattle.sr_base.specs.declared.names.InputError.{InputError}
+use Rattle.sr_base.specs.declared.names.InputError.TheVariants.{Text, Limit, Source, NoMemory}
 use Rattle.sr_desk.specs.Reader.{Reader}
 use Rattle.sr_model.specs.declared.tokens.Token.{Token}
-use Rattle.sr_model.specs.Texts.{Texts, next}
-use Rattle.sr_model.specs.Lsr.{NumbersRead, numbers_after}
+use Rattle.sr_model.specs.Tokens.{Tokens, next}
+use Rattle.sr_model.specs.BinaryTokens.{open_after}
+use Rattle.sr_model.specs.Reading.{Read, reads, misspells}
+use Rattle.sr_model.specs.Lsr.{NumbersTo0, numbers_after}
 use Rattle.sr_model.specs.Witnesses.{fault_of_literals}
-use Rattle.sr_model.specs.Dsr.{LineRead, line, none, misspells, passes, deletion_line, lemma_of, judged_lemma, with_lemma, with_deletion, line_in}
-use Rattle.sr_wit.specs.declared.fault.InFault.{InFault}
-use Rattle.sr_wit.specs.declared.fault.InFault.TheVariants.{Text, Limit, Source, NoMemory}
+use Rattle.sr_model.specs.Dsr.{MaybeLine, deletion_line, lemma_of, judged_lemma, with_lemma, with_deletion, line_in}
+use Rattle.sr_scan.specs.Left.{tokens_left, text_left, front_word, Refuses}
 use Rattle.sr_lemma.specs.declared.lemma.DsrLine.{DsrLine}
+use Rattle.sr_lemma.specs.Lines.{line_of}
 use Rattle.sr_dsr.specs.declared.lines.LineFrame.{LineFrame}
 use Rattle.sr_dsr.specs.declared.lines.LineKind.{LineKind}
 use Rattle.sr_dsr.specs.declared.lines.LineKind.TheVariants.{Lemma, Deletion}
-use Rattle.sr_lemma.specs.Laws.{front_word}
-use Rattle.sr_lemma.specs.Lines.{line_of}
-use Rattle.sr_lemma.specs.Reads.{WhereTold, WhereToldBefore}
-
--- the fault is what the tokens spell; failed reads and want of memory tell nothing of it
-abbrev pub StopsLine : InFault → LineRead → Type 0
-StopsLine (Text kind place) read = read ≡ misspells kind place
-StopsLine (Limit kind) read = read ≡ passes kind
-StopsLine Source read = Unit {0}
-StopsLine NoMemory read = Unit {0}
 
 -- what the numbers of a line make
-abbrev pub with_kind : LineKind → NumbersRead → LineRead
+abbrev pub with_kind : LineKind → Read NumbersTo0 → Read MaybeLine
 with_kind Lemma n = with_lemma n
 with_kind Deletion n = with_deletion n
 
-abbrev pub framed_as : LineKind → ℕ → List Literal → Texts → LineRead
+abbrev pub framed_as : LineKind → ℕ → List Literal → Tokens → Read MaybeLine
 framed_as Lemma end lits rest = judged_lemma (fault_of_literals lits) end (lemma_of lits) rest
-framed_as Deletion end lits rest = line (deletion_line (distinct lits)) rest
+framed_as Deletion end lits rest = reads (Some (deletion_line (distinct lits))) rest
 
 -- the line of a frame and its literals, with what is left behind it, or the fault of the whole
-abbrev pub framed : LineFrame → List Literal → Texts → LineRead
+abbrev pub framed : LineFrame → List Literal → Tokens → Read MaybeLine
 framed f lits rest = framed_as f.kind f.end lits rest
 
--- a frame of tokens, of which these are left, and its literals
-abbrev pub GivesFrameOf : (Texts → LineRead) → Option Texts → Option Texts → List Literal → Result LineFrame InFault → Type 0
-GivesFrameOf read old new lits (Ok f) = WhereTold old new (λ all rest. read all ≡ framed f lits rest)
-GivesFrameOf read old new lits (Err e) = WhereToldBefore old (λ all. StopsLine e (read all))
+-- what was read is made of these literals and what is left
+abbrev pub GivesFrom : Read MaybeLine → Tokens → List Literal → Result LineFrame InputError → Type 0
+GivesFrom read left lits (Ok f) = read ≡ framed f lits left
+GivesFrom read left lits (Err e) = Refuses read e
 
--- a lemma, behind the first token of its literals
-abbrev pub GivesLemmaFrame : LimitValues → Token → Option Texts → Option Texts → List Literal → Result LineFrame InFault → Type 0
-GivesLemmaFrame lim t old new lits result = GivesFrameOf (λ all. with_lemma (numbers_after limit.Vars lim.vars [] (next t all))) old new lits result
+-- the same, or nothing
+abbrev pub GivesSomeFrom : Read MaybeLine → Tokens → List Literal → Result (Option LineFrame) InputError → Type 0
+GivesSomeFrom read left lits (Ok (Some f)) = read ≡ framed f lits left
+GivesSomeFrom read left lits (Ok None) = read ≡ reads None left
+GivesSomeFrom read left lits (Err e) = Refuses read e
+
+-- a lemma of a text, behind the first token of its literals
+abbrev pub ReadsTextLemma : LimitValues → Token → Reader → Reader → Contents → List Literal → Result LineFrame InputError → Type 0
+ReadsTextLemma lim t old new c lits result = GivesFrom (with_lemma (numbers_after limit.Vars lim.vars [] (next t (text_left old c)))) (text_left new c) lits result
 
 -- a lemma or a deletion, behind what tells it
-abbrev pub GivesFrameBehind : LineKind → LimitValues → Option Texts → Option Texts → List Literal → Result LineFrame InFault → Type 0
-GivesFrameBehind kind lim old new lits result = GivesFrameOf (λ all. with_kind kind (numbers_after limit.Vars lim.vars [] all)) old new lits result
+abbrev pub ReadsBehind : Form → LineKind → LimitValues → Reader → Reader → Contents → List Literal → Result LineFrame InputError → Type 0
+ReadsBehind form kind lim old new c lits result =
+    GivesFrom (with_kind kind (numbers_after limit.Vars lim.vars [] (tokens_left form 1 1 old c))) (tokens_left form 1 0 new c) lits result
 
--- a frame, or nothing
-abbrev pub GivesFrameFrom : (Texts → LineRead) → Option Texts → Option Texts → List Literal → Result (Option LineFrame) InFault → Type 0
-GivesFrameFrom read old new lits (Ok (Some f)) = WhereTold old new (λ all rest. read all ≡ framed f lits rest)
-GivesFrameFrom read old new lits (Ok None) = WhereToldBefore old (λ all. read all ≡ none)
-GivesFrameFrom read old new lits (Err e) = WhereToldBefore old (λ all. StopsLine e (read all))
+-- the line that a token begins
+abbrev pub ReadsBegun : Form → LimitValues → Token → Reader → Reader → Contents → List Literal → Result LineFrame InputError → Type 0
+ReadsBegun form lim t old new c lits result =
+    GivesFrom (line_in form lim (front_word t.place t.word (tokens_left form 1 (open_after 1 0 t.word) old c))) (tokens_left form 1 0 new c) lits result
 
--- the frame that a token begins
-abbrev pub GivesFrameAt : Form → LimitValues → Token → Option Texts → Option Texts → List Literal → Result (Option LineFrame) InFault → Type 0
-GivesFrameAt form lim t old new lits result = GivesFrameFrom (λ all. line_in form lim (front_word t.place t.word all)) old new lits result
-
--- where the tokens were told, they begin with the line of a frame and its literals, and the others are left, or nothing, or the first fault or limit
-abbrev pub GivesFrame : Form → LimitValues → Option Texts → Option Texts → List Literal → Result (Option LineFrame) InFault → Type 0
-GivesFrame form lim old new lits result = GivesFrameFrom (λ all. line_in form lim all) old new lits result
+-- the line that stands next, or nothing
+abbrev pub ReadsLine : Form → LimitValues → Reader → Reader → Contents → List Literal → Result (Option LineFrame) InputError → Type 0
+ReadsLine form lim old new c lits result = GivesSomeFrom (line_in form lim (tokens_left form 1 0 old c)) (tokens_left form 1 0 new c) lits result
 
 -- a line that is made of its frame and its literals
-abbrev pub MakesLine : LineFrame → List Literal → Result DsrLine InFault → Type 0
-MakesLine f lits (Ok l) = (rest : Texts) → framed f lits rest ≡ line (line_of l) rest
-MakesLine f lits (Err (Text kind place)) = (rest : Texts) → framed f lits rest ≡ misspells kind place
+abbrev pub MakesLine : LineFrame → List Literal → Result DsrLine InputError → Type 0
+MakesLine f lits (Ok l) = (rest : Tokens) → framed f lits rest ≡ reads (Some (line_of l)) rest
+MakesLine f lits (Err (Text kind place)) = (rest : Tokens) → framed f lits rest ≡ misspells kind place
 MakesLine f lits (Err (Limit kind)) = ⊥
 MakesLine f lits (Err Source) = ⊥
 MakesLine f lits (Err NoMemory) = Unit {0}
 
--- a line, or nothing
-abbrev pub GivesLineOf : (Texts → LineRead) → Option Texts → Option Texts → Result (Option DsrLine) InFault → Type 0
-GivesLineOf read old new (Ok (Some l)) = WhereTold old new (λ all rest. read all ≡ line (line_of l) rest)
-GivesLineOf read old new (Ok None) = WhereToldBefore old (λ all. read all ≡ none)
-GivesLineOf read old new (Err e) = WhereToldBefore old (λ all. StopsLine e (read all))
-
--- where the tokens were told, a line stands at their front and the others are left, or nothing, or the first fault or limit
-abbrev pub GivesLine : Form → LimitValues → Option Texts → Option Texts → Result (Option DsrLine) InFault → Type 0
-GivesLine form lim old new result = GivesLineOf (λ all. line_in form lim all) old new result
+-- the lines as the definitions know them
+abbrev pub line_told : Result (Option DsrLine) InputError → Result MaybeLine InputError
+line_told (Ok (Some l)) = Ok (Some (line_of l))
+line_told (Ok None) = Ok None
+line_told (Err e) = Err e
 
 -- less room is left below the limit of bytes
 abbrev pub TakesSome : Reader → Reader → Type 0

@@ -3,8 +3,9 @@
 #![tactic(auto)]
 
 mod lines;
+mod reader;
 mod write;
 
-pub use lines::{LineFrame, LineKind, make_line, next_line, next_line_in, read_line};
+pub use reader::LineReader;
 pub use sr_lemma::{DsrLine, Lemma};
 pub use write::line_bytes;

@@ -3,11 +3,12 @@ ghost use Rattle.std.specs.Prelude.{◌≡◌, ◌++◌, OnOk, IfOk};
 ghost use Rattle.std.specs.Option.{option_copied};
 ghost use Rattle.sr_model.specs.Writing.{literals_written, written_line};
 ghost use Rattle.sr_lemma.specs.Lines.{line_of};
-ghost use Rattle.sr_lemma.specs.Written.{written_numbers, written_end};
+ghost use Rattle.sr_scan.specs.Written.{written_numbers, written_end};
 ghost use Rattle.sr_dsr.specs.Written.{written_start};
 
 use sr_base::{ByteList, Form, Lit, NoMemory};
-use sr_lemma::{DsrLine, put_clause, put_end};
+use sr_lemma::{DsrLine, put_clause};
+use sr_scan::put_end;
 use sr_wit::Subst;
 use std::alloc::Global;
 
@@ -36,7 +37,9 @@ fn parts_bytes(
     clause: &[Lit],
     witness: Option<&Subst>,
 ) -> Result<ByteList, NoMemory>
-    ensures { IfOk result (λ bytes. bytes ≡ written_start form is_deletion ++ written_numbers form (literals_written clause.now (option_copied witness.entry)) ++ written_end form) }
+    ensures { IfOk result
+        (λ bytes. bytes ≡ written_start form is_deletion ++ written_numbers form (literals_written clause.now
+        (option_copied witness.entry)) ++ written_end form) }
 {
     let mut out = ByteList::new(alloc);
     put_start(form, &mut out, is_deletion)?;

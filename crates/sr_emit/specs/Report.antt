@@ -1,11 +1,11 @@
 -- The report on standard output. Parts of a line are parted by one space, and a line feed ends it.
-use Rattle.std.specs.Prelude.{ℕ, List, [], ◌∷◌, ◌++◌, Option, Some, codes, decimal}
+use Rattle.std.specs.Prelude.{ℕ, ◌≡◌, List, [], ◌∷◌, ◌++◌, Option, Some, None, codes, decimal}
 use Rattle.sr_emit.specs.Names.{which_name, text_name, limit_name, usage_name, cause_text}
 use Rattle.sr_emit.specs.declared.counts.Counts.{Counts}
 use Rattle.sr_emit.specs.declared.report.Command.{Command}
 use Rattle.sr_emit.specs.declared.report.Command.TheVariants.{Check}
 use Rattle.sr_emit.specs.declared.outcome.Outcome.{Outcome}
-use Rattle.sr_emit.specs.declared.outcome.Outcome.TheVariants.{Verified, RejectedStep, NoEmptyClause, Usage, Text, Limit, SourceFault, SinkFault, NoMemory}
+use Rattle.sr_emit.specs.declared.outcome.Outcome.TheVariants.{Verified, RejectedStep, RejectedLemma, NoEmptyClause, Usage, Text, Limit, SourceFault, SinkFault, NoMemory}
 
 abbrev pub space : List ℕ
 space = 32 ∷ []
@@ -16,16 +16,28 @@ line_end = 10 ∷ []
 abbrev pub rejected_line : ℕ → List ℕ → List ℕ
 rejected_line id cause = codes "s REJECTED step " ++ decimal id ++ space ++ cause ++ line_end
 
+-- a lemma is rejected against a clause, or because it is empty
+abbrev pub against_text : Option ℕ → List ℕ
+against_text None = codes "empty"
+against_text (Some id) = codes "against " ++ decimal id
+
+abbrev pub rejected_lemma_line : ℕ → Option ℕ → List ℕ
+rejected_lemma_line lemma against = codes "s REJECTED lemma " ++ decimal lemma ++ space ++ against_text against ++ line_end
+
+abbrev pub verified_line : List ℕ
+verified_line = codes "s VERIFIED UNSAT\n"
+
 -- the last line; a fault of writing and want of memory print none
 abbrev pub last_line : Outcome → List ℕ
-last_line (Verified made core) = codes "s VERIFIED UNSAT" ++ line_end
+last_line Verified = verified_line
 last_line (RejectedStep id cause) = rejected_line id (cause_text cause)
+last_line (RejectedLemma lemma against) = rejected_lemma_line lemma against
 last_line NoEmptyClause = codes "s NO EMPTY CLAUSE" ++ line_end
 last_line (Usage kind) = codes "e usage " ++ usage_name kind ++ line_end
 last_line (Text which kind place) = codes "e text " ++ which_name which ++ space ++ text_name kind ++ space ++ decimal place ++ line_end
-last_line (Limit which kind made core) = codes "e limit " ++ which_name which ++ space ++ limit_name kind ++ line_end
+last_line (Limit which kind) = codes "e limit " ++ which_name which ++ space ++ limit_name kind ++ line_end
 last_line (SourceFault which) = codes "e source " ++ which_name which ++ line_end
-last_line (SinkFault which made core) = []
+last_line (SinkFault which) = []
 last_line NoMemory = []
 
 abbrev pub count_line : List ℕ → ℕ → List ℕ
@@ -36,8 +48,13 @@ check_lines k = count_line (codes "clauses") k.clauses ++ count_line (codes "ste
 
 -- statistics stand before the last line of a verified run that is asked for them
 abbrev pub statistics_of : Command → Option Counts → Outcome → List ℕ
-statistics_of Check (Some k) (Verified made core) = check_lines k
+statistics_of Check (Some k) Verified = check_lines k
 statistics_of command counts outcome = []
 
 abbrev pub report : Command → Option Counts → Outcome → List ℕ
 report command counts outcome = statistics_of command counts outcome ++ last_line outcome
+
+-- a report of which a prefix ends with the line of a verified run is the report of one
+abbrev pub OnlyVerifiedSaysSo : Type 0
+OnlyVerifiedSaysSo = (command : Command) (counts : Option Counts) (outcome : Outcome) (before rest : List ℕ)
+    → report command counts outcome ≡ before ++ verified_line ++ rest → outcome ≡ Verified

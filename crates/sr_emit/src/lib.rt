@@ -2,10 +2,12 @@
 #![tactic(auto)]
 
 mod counts;
+mod laws;
 mod names;
 mod outcome;
 mod report;
 
 pub use counts::Counts;
+pub use laws::only_verified_says_so;
 pub use outcome::{Outcome, UsageKind};
 pub use report::{Command, report_bytes};

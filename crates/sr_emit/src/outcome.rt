@@ -1,9 +1,8 @@
 // The outcome of a run.
 ghost use Rattle.std.specs.Prelude.{◌≡◌};
-ghost use Rattle.sr_emit.specs.Status.{status_of};
+ghost use Rattle.sr_emit.specs.Status.{is_verified, status_of};
 
-use sr_base::{Cause, IdList, LimitKind, TextKind, Which};
-use sr_wit::ItemList;
+use sr_base::{Cause, ClauseId, LimitKind, TextKind, Which};
 
 /// Why the words of the command line are refused.
 #[derive(Clone, Copy, Debug, PartialEq, Eq)]
@@ -19,20 +18,20 @@ pub enum UsageKind {
 }
 
 /// What a run answers.
-///
-/// Where a field `made` is there, it and `core` are what a verified run made: the items of the trimmed proof and the
-/// numbers of the core's clauses. The command `check` makes neither.
-#[derive(Drop)]
+#[derive(Clone, Copy, Debug, PartialEq, Eq)]
 pub enum Outcome {
     /// No assignment satisfies the formula.
-    Verified {
-        made: Option<ItemList>,
-        core: Option<IdList>,
-    },
+    Verified,
     /// The item with this number in front doesn't meet the hint rules.
     RejectedStep {
-        id: u32,
+        id: ClauseId,
         cause: Cause,
+    },
+    /// A lemma that a later step needs isn't redundant: the clause `against` shows it. Without such a clause, the lemma is
+    /// empty, and the clauses before it don't refute it.
+    RejectedLemma {
+        lemma: ClauseId,
+        against: Option<ClauseId>,
     },
     /// The proof ends, and no step has the empty clause.
     NoEmptyClause,
@@ -48,8 +47,6 @@ pub enum Outcome {
     Limit {
         which: Which,
         kind: LimitKind,
-        made: Option<ItemList>,
-        core: Option<IdList>,
     },
     /// Beginning to read this file, or reading it, failed.
     SourceFault {
@@ -58,22 +55,28 @@ pub enum Outcome {
     /// Beginning to write this file, writing it or finishing it failed.
     SinkFault {
         which: Which,
-        made: Option<ItemList>,
-        core: Option<IdList>,
     },
     /// Memory ran out.
     NoMemory,
 }
 
 impl Outcome {
+    /// Whether no assignment satisfies the formula.
+    pub fn is_verified(self) -> bool
+        ensures { result ≡ is_verified self }
+    {
+        matches!(self, Outcome::Verified)
+    }
+
     /// The status with which the process ends: 0 verified, 1 rejected, 2 the words, 3 a text, 4 a limit, 5 reading,
     /// 6 writing, 7 memory.
-    pub fn status(&self) -> u8
-        ensures { result ≡ status_of self.now }
+    pub fn status(self) -> u8
+        ensures { result ≡ status_of self }
     {
         match self {
-            Outcome::Verified { .. } => 0,
+            Outcome::Verified => 0,
             Outcome::RejectedStep { .. } => 1,
+            Outcome::RejectedLemma { .. } => 1,
             Outcome::NoEmptyClause => 1,
             Outcome::Usage(_) => 2,
             Outcome::Text { .. } => 3,

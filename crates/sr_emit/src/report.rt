@@ -1,11 +1,11 @@
 // The report on standard output: the lines of `--stats` where verified, and a last line for each outcome.
 ghost use Rattle.std.specs.Prelude.{◌≡◌, ◌++◌, IfOk, string_bytes, option_map, decimal};
-ghost use Rattle.sr_emit.specs.Report.{report, rejected_line, last_line, count_line, check_lines, statistics_of};
+ghost use Rattle.sr_emit.specs.Report.{report, rejected_line, rejected_lemma_line, last_line, count_line, check_lines, statistics_of};
 
 use crate::counts::Counts;
 use crate::names::{name_of_limit, name_of_text, name_of_usage, name_of_which, text_of_cause};
 use crate::outcome::Outcome;
-use sr_base::{ByteList, NoMemory};
+use sr_base::{ByteList, ClauseId, NoMemory};
 use std::alloc::{AllocError, Global};
 
 /// The command that a run was given.
@@ -65,7 +65,7 @@ fn statistics(
     ensures { IfOk result (λ s. string_bytes s ≡ statistics_of command (option_map (λ c. c.now) counts.entry) outcome.now) }
 {
     match (command, counts, outcome) {
-        (Command::Check, Some(counts), Outcome::Verified { .. }) => check_statistics(alloc, counts),
+        (Command::Check, Some(counts), Outcome::Verified) => check_statistics(alloc, counts),
         _ => Ok(String::new(alloc)),
     }
 }
@@ -73,8 +73,8 @@ fn statistics(
 fn check_statistics(alloc: Global, counts: &Counts) -> Result<String, AllocError>
     ensures { IfOk result (λ s. string_bytes s ≡ check_lines counts.now) }
 {
-    let mut text = count_line(alloc, "clauses", u64::from(counts.clauses))?;
-    let steps = count_line(alloc, "steps", u64::from(counts.steps))?;
+    let mut text = count_line(alloc, "clauses", counts.clauses)?;
+    let steps = count_line(alloc, "steps", counts.steps)?;
     text.push_str(steps.as_str())?;
     let hints = count_line(alloc, "hints", counts.hints)?;
     text.push_str(hints.as_str())?;
@@ -102,11 +102,34 @@ fn digits(alloc: Global, n: u64) -> Result<String, AllocError>
 fn rejected_line(alloc: Global, id: u32, cause: &str) -> Result<String, AllocError>
     ensures { IfOk result (λ s. string_bytes s ≡ rejected_line id cause.now) }
 {
-    let id = digits(alloc, u64::from(id))?;
+    let number = digits(alloc, u64::from(id))?;
     let mut text = String::from_str(alloc, "s REJECTED step ")?;
-    text.push_str(id.as_str())?;
+    text.push_str(number.as_str())?;
     text.push_str(" ")?;
     text.push_str(cause)?;
+    text.push_str("\n")?;
+    Ok(text)
+}
+
+fn rejected_lemma_line(
+    alloc: Global,
+    lemma: ClauseId,
+    against: Option<ClauseId>,
+) -> Result<String, AllocError>
+    ensures { IfOk result (λ s. string_bytes s ≡ rejected_lemma_line lemma against) }
+{
+    let lemma = digits(alloc, u64::from(lemma))?;
+    let mut text = String::from_str(alloc, "s REJECTED lemma ")?;
+    text.push_str(lemma.as_str())?;
+    text.push_str(" ")?;
+    match against {
+        None => text.push_str("empty")?,
+        Some(id) => {
+            let id = digits(alloc, u64::from(id))?;
+            text.push_str("against ")?;
+            text.push_str(id.as_str())?;
+        }
+    }
     text.push_str("\n")?;
     Ok(text)
 }
@@ -115,11 +138,12 @@ fn last_of(alloc: Global, outcome: &Outcome) -> Result<String, AllocError>
     ensures { IfOk result (λ s. string_bytes s ≡ last_line outcome.now) }
 {
     match outcome {
-        Outcome::Verified { .. } => String::from_str(alloc, "s VERIFIED UNSAT\n"),
+        Outcome::Verified => String::from_str(alloc, "s VERIFIED UNSAT\n"),
         Outcome::RejectedStep { id, cause } => {
             let cause = text_of_cause(alloc, *cause)?;
             rejected_line(alloc, *id, cause.as_str())
         }
+        Outcome::RejectedLemma { lemma, against } => rejected_lemma_line(alloc, *lemma, *against),
         Outcome::NoEmptyClause => String::from_str(alloc, "s NO EMPTY CLAUSE\n"),
         Outcome::Usage(kind) => {
             let kind = name_of_usage(*kind);
@@ -130,7 +154,7 @@ fn last_of(alloc: Global, outcome: &Outcome) -> Result<String, AllocError>
             let kind = name_of_text(*kind);
             format!(in alloc; "e text {which} {kind} {place}\n")
         }
-        Outcome::Limit { which, kind, .. } => {
+        Outcome::Limit { which, kind } => {
             let which = name_of_which(*which);
             let kind = name_of_limit(*kind);
             format!(in alloc; "e limit {which} {kind}\n")

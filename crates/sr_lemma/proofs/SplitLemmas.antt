@@ -7,8 +7,8 @@ use Rattle.sr_base.specs.Literal.{Literal, same, distinct}
 use Rattle.sr_base.specs.declared.names.TextKind.TheVariants.{OddMap, Twice}
 use Rattle.sr_model.specs.Substitution.{Witness}
 use Rattle.sr_model.specs.Witnesses.{before, after, pairs, is_odd, clause_of_literals, fault_of_witness}
-use Rattle.sr_wit.specs.declared.fault.InFault.{InFault}
-use Rattle.sr_wit.specs.declared.fault.InFault.TheVariants.{Text, Limit, Source, NoMemory}
+use Rattle.sr_base.specs.declared.names.InputError.{InputError}
+use Rattle.sr_base.specs.declared.names.InputError.TheVariants.{Text, Limit, Source, NoMemory}
 use Rattle.sr_lemma.specs.Parts.{GivesMaps, GivesSubst, GivesWitness, FindsWitness}
 
 pub before-take : (p : Literal) (xs : List Literal) → take (length (before p xs)) xs ≡ before p xs
@@ -57,13 +57,13 @@ clause_first p rest n e =
     rw more (ap (λ l. distinct (p ∷ l)) (ap (λ m. take m rest) e ∙ before-take p rest))
 
 -- a witness that has no third pivot
-pub witness_alone : (p : Literal) (lits : List Literal) (end : ℕ) (r : Result Witness InFault) → length (before p lits) ≡ length lits → GivesSubst p lits [] end r → GivesWitness p lits end r
+pub witness_alone : (p : Literal) (lits : List Literal) (end : ℕ) (r : Result Witness InputError) → length (before p lits) ≡ length lits → GivesSubst p lits [] end r → GivesWitness p lits end r
 witness_alone p lits end r h given = by r given
   where
     all : before p lits ≡ lits
     all = sym (before-take p lits) ∙ take_all (length (before p lits)) lits (omega arith)
 
-    by : (r : Result Witness InFault) → GivesSubst p lits [] end r → GivesWitness p lits end r
+    by : (r : Result Witness InputError) → GivesSubst p lits [] end r → GivesWitness p lits end r
     by (Ok w) g = rw (after-none p lits h, all) (ap (option_map (λ v. Twice)) g.0, g.1)
     by (Err (Text kind place)) g = rw (after-none p lits h, all) g
     by (Err (Limit kind)) g = g
@@ -71,12 +71,12 @@ witness_alone p lits end r h given = by r given
     by (Err NoMemory) g = g
 
 -- one that has maps
-pub witness_maps : (p : Literal) (lits : List Literal) (trues : List Literal) (maps : List (Literal × Literal)) (end : ℕ) (r : Result Witness InFault) → length (before p lits) < length lits
+pub witness_maps : (p : Literal) (lits : List Literal) (trues : List Literal) (maps : List (Literal × Literal)) (end : ℕ) (r : Result Witness InputError) → length (before p lits) < length lits
     → trues ≡ before p lits → is_odd (drop (length (before p lits) + 1) lits) ≡ false → maps ≡ pairs (drop (length (before p lits) + 1) lits)
     → GivesSubst p trues maps end r → GivesWitness p lits end r
 witness_maps p lits trues maps end r h t even m given = by r (rw (t, m) at given)
   where
-    by : (r : Result Witness InFault) → GivesSubst p (before p lits) (pairs (drop (length (before p lits) + 1) lits)) end r → GivesWitness p lits end r
+    by : (r : Result Witness InputError) → GivesSubst p (before p lits) (pairs (drop (length (before p lits) + 1) lits)) end r → GivesWitness p lits end r
     by (Ok w) g = rw (after-some p lits h, even) (ap (option_map (λ v. Twice)) g.0, g.1)
     by (Err (Text kind place)) g = rw (after-some p lits h, even) g
     by (Err (Limit kind)) g = g
@@ -94,14 +94,14 @@ pub a_witness : (p : Literal) (rest : List Literal) (end : ℕ) (w : Witness) �
     → FindsWitness (p ∷ rest) end (Ok (Some w))
 a_witness p rest end w h g = rw (after-some p rest h) (g.0, ap Some g.1)
 
-pub bad_witness : (p : Literal) (rest : List Literal) (end : ℕ) (e : InFault) → length (before p rest) < length rest → GivesWitness p (drop (length (before p rest) + 1) rest) end (Err e)
+pub bad_witness : (p : Literal) (rest : List Literal) (end : ℕ) (e : InputError) → length (before p rest) < length rest → GivesWitness p (drop (length (before p rest) + 1) rest) end (Err e)
     → FindsWitness (p ∷ rest) end (Err e)
 bad_witness p rest end (Text kind place) h g = rw (after-some p rest h) g
 bad_witness p rest end (Limit kind) h g = g
 bad_witness p rest end Source h g = g
 bad_witness p rest end NoMemory h g = g
 
-pub maps_stop : (p : Literal) (lits : List Literal) (end : ℕ) (e : InFault) → length (before p lits) < length lits → GivesMaps (drop (length (before p lits) + 1) lits) end (Err e) → GivesWitness p lits end (Err e)
+pub maps_stop : (p : Literal) (lits : List Literal) (end : ℕ) (e : InputError) → length (before p lits) < length lits → GivesMaps (drop (length (before p lits) + 1) lits) end (Err e) → GivesWitness p lits end (Err e)
 maps_stop p lits end (Text kind place) h g = (odd_maps p lits h g.0 ∙ ap Some (sym g.1), g.2)
 maps_stop p lits end (Limit kind) h g = g
 maps_stop p lits end Source h g = g

@@ -3,9 +3,9 @@ ghost use Rattle.std.specs.Prelude.{◌≡◌, IfOk};
 ghost use Rattle.sr_model.specs.Dsr.{LineHasPivot, lemma_line};
 ghost use Rattle.sr_lemma.specs.Lines.{lemma_told, line_of, clause_told, GivesLemma};
 
-use crate::witnesses::{find_clause, find_witness};
-use sr_base::{Clause, LitList};
-use sr_wit::{InFault, Subst};
+use crate::witnesses::{clause_of_list, find_witness};
+use sr_base::{Clause, InputError, LitList};
+use sr_wit::Subst;
 use std::alloc::Global;
 
 /// A clause that a proof adds, and the witness that shows that it may, where one is written. A witness
@@ -31,13 +31,13 @@ impl Lemma {
     ///
     /// `Text` with this place, that of the `0` that ends the literals: `OddMap` where a literal of the pairs
     /// is left over, or else `Twice` where a variable gets two different images.
-    pub fn from_literals(alloc: Global, lits: LitList, end: u64) -> Result<Lemma, InFault>
+    pub fn from_literals(alloc: Global, lits: LitList, end: u64) -> Result<Lemma, InputError>
         ensures lemma { GivesLemma lits end result }
         ensures pivot { IfOk result (λ l. LineHasPivot (lemma_line (lemma_told l))) }
     {
         let witness = find_witness(alloc, lits.as_slice(), end)?;
-        let Ok(clause) = find_clause(alloc, lits) else {
-            return Err(InFault::NoMemory);
+        let Ok(clause) = clause_of_list(alloc, lits) else {
+            return Err(InputError::NoMemory);
         };
         Ok(Lemma { clause, witness })
     }

@@ -2,19 +2,17 @@
 //
 // Those that stand whole in the reader's buffer are taken in one go. In a binary file the value that spells a literal
 // is its code.
-ghost use Rattle.std.specs.Prelude.{◌≡◌, ◌≢◌, ℕ, ◌+◌, ◌*◌, ◌<◌, ◌≤◌, pos, unsigned_abs, [], map, true, IsTrue, IfNone, IfSome, OnSome, IfOk};
+ghost use Rattle.std.specs.Prelude.{◌≡◌, ◌≢◌, ℕ, ◌+◌, ◌*◌, ◌<◌, ◌≤◌, pos, unsigned_abs, [], map, IfNone, IfSome, OnSome, IfOk};
 ghost use Rattle.sr_base.specs.Literal.{number, literal_of, literal_code};
-ghost use Rattle.sr_desk.specs.Outside.{OnlyReads};
-ghost use Rattle.sr_desk.specs.Next.{IsSameReader};
-ghost use Rattle.sr_lemma.specs.Reads.{GivesLiterals, GivesMore, HasInCause, LeadsLiteral, SaysLiteral, TakesLiterals};
-ghost use Rattle.sr_lemma.specs.Told.{literals_told};
+ghost use Rattle.sr_desk.specs.Next.{Stands, Reads, ForContents};
+ghost use Rattle.sr_scan.specs.Machine.{Skips};
+ghost use Rattle.sr_scan.specs.Left.{is_fault};
+ghost use Rattle.sr_lemma.specs.Reads.{GivesLiterals, GivesMore, LeadsLiteral, SaysLiteral, TakesLiterals, numbers_told};
 
-use crate::front::{misplaced, next_token};
-use sr_base::{Form, LimitKind, Lit, LitList, NoMemory};
+use sr_base::{Form, InputError, LimitKind, Lit, LitList, NoMemory};
 use sr_desk::{ByteReader, Desk};
 use sr_model::{Token, Word};
-use sr_scan::{short_value, text_number};
-use sr_wit::InFault;
+use sr_scan::{misplaced, next_token, short_value, text_number};
 
 /// The literal of a number, where its variable is at most the bound.
 fn literal_within(x: i64, bound: u32) -> Option<Lit>
@@ -88,7 +86,7 @@ fn take_literals(
 ) -> Result<(), NoMemory>
     requires { bound ≤ 16777215 }
     ensures ok { IfOk result (λ _. TakesLiterals form bound reader.old reader.new lits.old lits.new) }
-    ensures same { IsSameReader reader.old reader.new }
+    ensures skips { Skips reader.old reader.new }
 {
     let bytes = reader.buffered();
     let mut at = 0;
@@ -110,7 +108,7 @@ fn take_at_hand(
 ) -> Result<(), NoMemory>
     requires { bound ≤ 16777215 }
     ensures ok { IfOk result (λ _. TakesLiterals form bound reader.old reader.new lits.old lits.new) }
-    ensures same { IsSameReader reader.old reader.new }
+    ensures skips { Skips reader.old reader.new }
 {
     match form {
         Form::Text => take_literals(Form::Text, bound, reader, lits),
@@ -120,12 +118,12 @@ fn take_at_hand(
 
 /// The literal that a token says, none at the `0`.
 #[inline(always)]
-fn said_literal(token: &Token, bound: u32) -> Result<Option<Lit>, InFault>
+fn said_literal(token: &Token, bound: u32) -> Result<Option<Lit>, InputError>
     requires { bound ≤ 16777215 }
     ensures { SaysLiteral bound token.now result }
 {
     let Word::Number(x) = token.word else {
-        return Err(InFault::Text {
+        return Err(InputError::Text {
             kind: misplaced(&token.word),
             place: token.place,
         });
@@ -135,7 +133,7 @@ fn said_literal(token: &Token, bound: u32) -> Result<Option<Lit>, InFault>
     }
     match literal_within(x, bound) {
         Some(l) => Ok(Some(l)),
-        None => Err(InFault::Limit(LimitKind::Vars)),
+        None => Err(InputError::Limit(LimitKind::Vars)),
     }
 }
 
@@ -151,25 +149,29 @@ pub fn read_more_literals<D: Desk>(
     lits: &mut LitList,
     reader: &mut ByteReader,
     desk: &mut D,
-) -> Result<u64, InFault>
-    requires reads { IsTrue ((D.outside desk.old).slot reader.old.slot).reads }
+) -> Result<u64, InputError>
+    requires stands { Stands reader.old (D.outside desk.old) }
     requires bound { bound ≤ 16777215 }
-    ensures literals { (lists open_lists : ℕ) → GivesMore form lists open_lists bound lits.old reader.old reader.new (D.outside desk.old) (D.outside desk.new) (literals_told lits.new result) }
+    ensures literals { (lists open_lists : ℕ) → ForContents reader.new (D.outside desk.new)
+        (λ c. GivesMore form lists open_lists bound lits.old reader.old reader.new c (numbers_told lits.new result)) }
     ensures named { IfOk result (λ _. map literal_of (map number lits.old) ≡ lits.old → map literal_of (map number lits.new) ≡ lits.new) }
-    ensures same { IsSameReader reader.old reader.new }
-    ensures only { OnlyReads reader.old.slot (D.outside desk.old) (D.outside desk.new) }
-    ensures cause { HasInCause reader.old.slot (D.outside desk.old) (D.outside desk.new) result }
+    ensures reads { Reads reader.old reader.new (D.outside desk.old) (D.outside desk.new) (is_fault result) }
 {
     'tokens: loop {
         if take_at_hand(form, bound, reader, lits).is_err() {
-            return Err(InFault::NoMemory);
+            return Err(InputError::NoMemory);
         }
-        let token = next_token(form, false, reader, desk)?;
-        let Some(l) = said_literal(&token, bound)? else {
-            return Ok(token.place);
+        let token = match next_token(form, false, reader, desk) {
+            Ok(token) => token,
+            Err(error) => return Err(error),
+        };
+        let l = match said_literal(&token, bound) {
+            Ok(Some(l)) => l,
+            Ok(None) => return Ok(token.place),
+            Err(error) => return Err(error),
         };
         if lits.push(l).is_err() {
-            return Err(InFault::NoMemory);
+            return Err(InputError::NoMemory);
         }
     }
 }
@@ -185,16 +187,15 @@ pub fn read_all_literals<D: Desk>(
     lits: &mut LitList,
     reader: &mut ByteReader,
     desk: &mut D,
-) -> Result<u64, InFault>
-    requires reads { IsTrue ((D.outside desk.old).slot reader.old.slot).reads }
+) -> Result<u64, InputError>
+    requires stands { Stands reader.old (D.outside desk.old) }
     requires bound { bound ≤ 16777215 }
-    ensures literals { (lists open_lists : ℕ) → GivesMore form lists open_lists bound [] reader.old reader.new (D.outside desk.old) (D.outside desk.new) (literals_told lits.new result) }
+    ensures literals { (lists open_lists : ℕ) → ForContents reader.new (D.outside desk.new)
+        (λ c. GivesMore form lists open_lists bound [] reader.old reader.new c (numbers_told lits.new result)) }
     ensures named { IfOk result (λ _. map literal_of (map number lits.new) ≡ lits.new) }
-    ensures same { IsSameReader reader.old reader.new }
-    ensures only { OnlyReads reader.old.slot (D.outside desk.old) (D.outside desk.new) }
-    ensures cause { HasInCause reader.old.slot (D.outside desk.old) (D.outside desk.new) result }
+    ensures reads { Reads reader.old reader.new (D.outside desk.old) (D.outside desk.new) (is_fault result) }
 {
-    lits.cut(0);
+    lits.truncate(0);
     read_more_literals(form, bound, lits, reader, desk)
 }
 
@@ -210,21 +211,22 @@ pub fn read_literals<D: Desk>(
     lits: &mut LitList,
     reader: &mut ByteReader,
     desk: &mut D,
-) -> Result<u64, InFault>
-    requires reads { IsTrue ((D.outside desk.old).slot reader.old.slot).reads }
+) -> Result<u64, InputError>
+    requires stands { Stands reader.old (D.outside desk.old) }
     requires bound { bound ≤ 16777215 }
-    ensures literals { (lists open_lists : ℕ) → GivesLiterals form lists open_lists bound first reader.old reader.new (D.outside desk.old) (D.outside desk.new) (literals_told lits.new result) }
+    ensures literals { (lists open_lists : ℕ) → ForContents reader.new (D.outside desk.new)
+        (λ c. GivesLiterals form lists open_lists bound first reader.old reader.new c (numbers_told lits.new result)) }
     ensures named { IfOk result (λ _. map literal_of (map number lits.new) ≡ lits.new) }
-    ensures same { IsSameReader reader.old reader.new }
-    ensures only { OnlyReads reader.old.slot (D.outside desk.old) (D.outside desk.new) }
-    ensures cause { HasInCause reader.old.slot (D.outside desk.old) (D.outside desk.new) result }
+    ensures reads { Reads reader.old reader.new (D.outside desk.old) (D.outside desk.new) (is_fault result) }
 {
-    lits.cut(0);
-    let Some(l) = said_literal(&first, bound)? else {
-        return Ok(first.place);
+    lits.truncate(0);
+    let l = match said_literal(&first, bound) {
+        Ok(Some(l)) => l,
+        Ok(None) => return Ok(first.place),
+        Err(error) => return Err(error),
     };
     if lits.push(l).is_err() {
-        return Err(InFault::NoMemory);
+        return Err(InputError::NoMemory);
     }
     read_more_literals(form, bound, lits, reader, desk)
 }

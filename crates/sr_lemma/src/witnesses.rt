@@ -5,8 +5,8 @@ ghost use Rattle.sr_base.specs.Literal.{distinct};
 ghost use Rattle.sr_model.specs.Witnesses.{before, pairs, clause_of_literals};
 ghost use Rattle.sr_lemma.specs.Parts.{GivesMaps, GivesSubst, GivesWitness, FindsWitness};
 
-use sr_base::{Clause, Lit, LitList, NoMemory, TextKind};
-use sr_wit::{InFault, Subst, SubstFault};
+use sr_base::{Clause, InputError, Lit, LitList, NoMemory, TextKind};
+use sr_wit::{Subst, SubstFault};
 use std::alloc::Global;
 
 /// How many literals stand before the next one that is the pivot.
@@ -40,18 +40,18 @@ fn pairs(alloc: Global, lits: &[Lit]) -> Result<Vec<(Lit, Lit)>, NoMemory>
 }
 
 /// The maps of the literals behind the third pivot. Where one is left over, the fault has this place.
-fn make_maps(alloc: Global, lits: &[Lit], end: u64) -> Result<Vec<(Lit, Lit)>, InFault>
+fn make_maps(alloc: Global, lits: &[Lit], end: u64) -> Result<Vec<(Lit, Lit)>, InputError>
     ensures { GivesMaps lits.now end result }
 {
     if lits.len() % 2 == 1 {
-        return Err(InFault::Text {
+        return Err(InputError::Text {
             kind: TextKind::OddMap,
             place: end,
         });
     }
     match pairs(alloc, lits) {
         Ok(maps) => Ok(maps),
-        Err(_) => Err(InFault::NoMemory),
+        Err(_) => Err(InputError::NoMemory),
     }
 }
 
@@ -61,21 +61,21 @@ fn make_subst(
     trues: &[Lit],
     maps: &[(Lit, Lit)],
     end: u64,
-) -> Result<Subst, InFault>
+) -> Result<Subst, InputError>
     ensures { GivesSubst pivot trues.now maps.now end result }
 {
     match Subst::from_parts(alloc, pivot, trues, maps) {
         Ok(witness) => Ok(witness),
-        Err(SubstFault::Twice(_)) => Err(InFault::Text {
+        Err(SubstFault::Twice(_)) => Err(InputError::Text {
             kind: TextKind::Twice,
             place: end,
         }),
-        Err(SubstFault::NoMemory) => Err(InFault::NoMemory),
+        Err(SubstFault::NoMemory) => Err(InputError::NoMemory),
     }
 }
 
 /// The witness of the literals behind the second pivot. A fault has the place of the `0` that ends them.
-fn make_witness(alloc: Global, pivot: Lit, lits: &[Lit], end: u64) -> Result<Subst, InFault>
+fn make_witness(alloc: Global, pivot: Lit, lits: &[Lit], end: u64) -> Result<Subst, InputError>
     ensures { GivesWitness pivot lits.now end result }
 {
     let third = count_before(lits, pivot);
@@ -92,7 +92,7 @@ fn make_witness(alloc: Global, pivot: Lit, lits: &[Lit], end: u64) -> Result<Sub
 ///
 /// `Text` exactly where an odd number of literals stands behind the third pivot (`OddMap`), or else where a
 /// variable gets two different images (`Twice`), with this place.
-pub fn find_witness(alloc: Global, lits: &[Lit], end: u64) -> Result<Option<Subst>, InFault>
+pub fn find_witness(alloc: Global, lits: &[Lit], end: u64) -> Result<Option<Subst>, InputError>
     ensures { FindsWitness lits.now end result }
 {
     let [pivot, rest @ ..] = lits else {
@@ -120,10 +120,10 @@ fn clause_length(lits: &[Lit]) -> usize
 }
 
 /// The clause among all literals of a lemma or a step. The list is cut to it and taken over, as [`Clause::from_list`] says.
-pub fn find_clause(alloc: Global, mut lits: LitList) -> Result<Clause, NoMemory>
+pub fn clause_of_list(alloc: Global, mut lits: LitList) -> Result<Clause, NoMemory>
     ensures { IfOk result (λ c. c ≡ clause_of_literals lits) }
 {
     let len = clause_length(lits.as_slice());
-    lits.cut(len);
+    lits.truncate(len);
     Clause::from_list(alloc, lits)
 }

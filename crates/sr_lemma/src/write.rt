@@ -2,58 +2,11 @@
 ghost use Rattle.std.specs.Prelude.{◌≡◌, ◌≤◌, ◌∷◌, ◌++◌, [], Some, unsigned_abs, OnOk, OnErr};
 ghost use Rattle.std.specs.Option.{option_copied};
 ghost use Rattle.sr_model.specs.Writing.{flat, maps_written, witness_written, literals_written};
-ghost use Rattle.sr_lemma.specs.Written.{written_number, written_numbers, written_literals, written_end};
+ghost use Rattle.sr_scan.specs.Written.{written_numbers, written_literals};
 
 use sr_base::{ByteList, Form, Lit, NoMemory};
-use sr_scan::{put_number_binary, put_number_text};
+use sr_scan::{put_literal, put_literals};
 use sr_wit::Subst;
-
-/// Adds a number; in text with the space behind it. Nothing was added where memory lacks.
-pub fn put_number(form: Form, out: &mut ByteList, x: i64) -> Result<(), NoMemory>
-    requires { unsigned_abs x ≤ 2147483647 }
-    ensures ok { OnOk result (out.new ≡ out.old ++ written_number form x) }
-    ensures err { OnErr result (out.new ≡ out.old) }
-{
-    match form {
-        Form::Text => put_spaced(out, x),
-        Form::Binary => put_number_binary(out, x),
-    }
-}
-
-fn put_spaced(out: &mut ByteList, x: i64) -> Result<(), NoMemory>
-    ensures ok { OnOk result (out.new ≡ out.old ++ written_number Form.Text x) }
-    ensures err { OnErr result (out.new ≡ out.old) }
-{
-    let before = out.as_slice().len();
-    put_number_text(out, x)?;
-    if out.push(b' ').is_err() {
-        out.cut(before);
-        return Err(NoMemory);
-    }
-    Ok(())
-}
-
-fn put_literal(form: Form, out: &mut ByteList, l: Lit) -> Result<(), NoMemory>
-    ensures ok { OnOk result (out.new ≡ out.old ++ written_literals form (l ∷ [])) }
-    ensures err { OnErr result (out.new ≡ out.old) }
-{
-    let _var = l.var();
-    put_number(form, out, l.value())
-}
-
-fn put_literals(form: Form, out: &mut ByteList, lits: &[Lit]) -> Result<(), NoMemory>
-    ensures ok { OnOk result (out.new ≡ out.old ++ written_literals form lits.now) }
-    ensures err { OnErr result (out.new ≡ out.old) }
-{
-    let before = out.as_slice().len();
-    for l in lits {
-        if put_literal(form, out, *l).is_err() {
-            out.cut(before);
-            return Err(NoMemory);
-        }
-    }
-    Ok(())
-}
 
 fn put_pairs(form: Form, out: &mut ByteList, maps: &[(Lit, Lit)]) -> Result<(), NoMemory>
     ensures ok { OnOk result (out.new ≡ out.old ++ written_literals form (flat maps.now)) }
@@ -62,7 +15,7 @@ fn put_pairs(form: Form, out: &mut ByteList, maps: &[(Lit, Lit)]) -> Result<(), 
     let before = out.as_slice().len();
     for map in maps {
         if put_pair(form, out, map.0, map.1).is_err() {
-            out.cut(before);
+            out.truncate(before);
             return Err(NoMemory);
         }
     }
@@ -76,7 +29,7 @@ fn put_pair(form: Form, out: &mut ByteList, from: Lit, to: Lit) -> Result<(), No
     let before = out.as_slice().len();
     put_literal(form, out, from)?;
     if put_literal(form, out, to).is_err() {
-        out.cut(before);
+        out.truncate(before);
         return Err(NoMemory);
     }
     Ok(())
@@ -93,7 +46,7 @@ fn put_maps(form: Form, out: &mut ByteList, pivot: Lit, maps: &[(Lit, Lit)]) -> 
     let before = out.as_slice().len();
     put_literal(form, out, pivot)?;
     if put_pairs(form, out, maps).is_err() {
-        out.cut(before);
+        out.truncate(before);
         return Err(NoMemory);
     }
     Ok(())
@@ -107,7 +60,7 @@ fn put_trues(form: Form, out: &mut ByteList, pivot: Lit, assigned: &[Lit]) -> Re
     let before = out.as_slice().len();
     put_literal(form, out, pivot)?;
     if put_literals(form, out, assigned).is_err() {
-        out.cut(before);
+        out.truncate(before);
         return Err(NoMemory);
     }
     Ok(())
@@ -120,7 +73,7 @@ fn put_witness(form: Form, out: &mut ByteList, witness: &Subst) -> Result<(), No
     let before = out.as_slice().len();
     put_trues(form, out, witness.pivot(), witness.assigned())?;
     if put_maps(form, out, witness.pivot(), witness.maps()).is_err() {
-        out.cut(before);
+        out.truncate(before);
         return Err(NoMemory);
     }
     Ok(())
@@ -143,27 +96,8 @@ pub fn put_clause(
         return Ok(());
     };
     if put_witness(form, out, witness).is_err() {
-        out.cut(before);
+        out.truncate(before);
         return Err(NoMemory);
     }
     Ok(())
-}
-
-/// Adds the `0` that ends an item; in text with the end of the line. Nothing was added where memory lacks.
-pub fn put_end(form: Form, out: &mut ByteList) -> Result<(), NoMemory>
-    ensures ok { OnOk result (out.new ≡ out.old ++ written_end form) }
-    ensures err { OnErr result (out.new ≡ out.old) }
-{
-    match form {
-        Form::Text => {
-            let before = out.as_slice().len();
-            out.push(b'0')?;
-            if out.push(b'\n').is_err() {
-                out.cut(before);
-                return Err(NoMemory);
-            }
-            Ok(())
-        }
-        Form::Binary => out.push(0),
-    }
 }

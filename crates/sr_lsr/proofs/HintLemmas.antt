@@ -9,103 +9,85 @@ use Rattle.std.proofs.lemmas.List.Elements.{All-cons, All-head, All-tail, All-pu
 use Rattle.sr_base.specs.declared.names.Form.{Form}
 use Rattle.sr_base.specs.declared.names.Form.TheVariants as form
 use Rattle.sr_base.specs.declared.names.LimitKind.TheVariants as limit
-use Rattle.sr_desk.specs.Outside.{Outside}
+use Rattle.sr_base.specs.Contents.{Contents}
+use Rattle.sr_base.specs.declared.names.InputError.{InputError}
+use Rattle.sr_base.specs.declared.names.InputError.TheVariants.{Text, Limit}
+use Rattle.sr_desk.specs.Outside.{Outside, Agrees}
 use Rattle.sr_desk.specs.Reader.{Reader, buffered, skipped}
+use Rattle.sr_desk.specs.Next.{Stands, remaining}
+use Rattle.sr_desk.proofs.ReaderLemmas.{remaining-ahead}
 use Rattle.sr_model.specs.declared.tokens.Word.TheVariants as word
 use Rattle.sr_model.specs.declared.tokens.Token.{Token}
-use Rattle.sr_model.specs.Texts.{Texts, next}
-use Rattle.sr_model.specs.Binary.{open_after}
+use Rattle.sr_model.specs.Tokens.{Tokens, next}
+use Rattle.sr_model.specs.BinaryTokens.{open_after, value_word}
 use Rattle.sr_model.specs.Meeting.{Group}
 use Rattle.sr_model.specs.Words.{signed}
+use Rattle.sr_model.specs.Reading.{reads}
 use Rattle.sr_model.specs.Lsr.{numbers_after, by_number, prefix_of, groups_of}
-use Rattle.sr_scan.specs.Binary.{value_word}
-use Rattle.sr_wit.specs.declared.fault.InFault.{InFault}
-use Rattle.sr_wit.specs.declared.fault.InFault.TheVariants.{Text, Limit}
+use Rattle.sr_scan.specs.Left.{tokens_left, misplaced, GivesToken, RefusesToken, Refuses}
+use Rattle.sr_scan.specs.BinaryLeft.{GivesFront}
+use Rattle.sr_scan.specs.Machine.{Skips}
+use Rattle.sr_scan.proofs.ReadLemmas.{agreed, Reads-skips, skipped-none}
 use Rattle.sr_wit.specs.Groups.{with_hint}
-use Rattle.sr_lemma.specs.Left.{tokens_left}
-use Rattle.sr_lemma.specs.Reads.{misplaced, WhereTold, StopsNumbers, GivesFront}
-use Rattle.sr_lemma.proofs.NumberLemmas.{at_number, at_default, by_number_more, by_number_above, front_next, front_stop, open_number, open_zero}
-use Rattle.sr_lemma.proofs.RunLemmas.{run_front}
-use Rattle.sr_lemma.proofs.TextRunLemmas.{text_run_front}
-use Rattle.sr_scan.specs.Left.{StandsFirst}
+use Rattle.sr_lemma.proofs.NumberLemmas.{at_number, at_default, by_number_more, by_number_above, front_numbers, refused_numbers, open_number, open_zero}
+use Rattle.sr_lemma.proofs.RunLemmas.{run_front, text_run_front}
 use Rattle.sr_lsr.specs.declared.hints.LeadingHint.{LeadingHint}
 use Rattle.sr_lsr.specs.declared.hints.Hints.{Hints}
 use Rattle.sr_lsr.specs.Written.{IsSmall, IsSmallGroup}
-use Rattle.sr_lsr.specs.Told.{hint_number, Spells, SpellsMore, SpellsNumber, LeadsHint, GoesOn}
+use Rattle.sr_lsr.specs.Told.{hint_number, Spells, SpellsMore, SpellsNumber, LeadsHint, TakesHints}
 use Rattle.sr_lsr.specs.Reads.{GivesHints}
 
 -- the hints that were read and what is left spell what stood at the front
-abbrev pub Reading : Form → ℕ → Reader → Reader → Outside → Outside → Hints → Type 0
-Reading form bound old new before after hints =
-    WhereTold (tokens_left form 2 1 old before) (tokens_left form 2 1 new after)
-    (λ all left. (these : List ℤ) × (numbers_after limit.Ids bound [] all ≡ numbers_after limit.Ids bound these left) × Spells these hints)
+abbrev pub Reading : ℕ → Tokens → Tokens → Hints → Type 0
+Reading bound all left hints = (these : List ℤ) × (numbers_after limit.Ids bound [] all ≡ numbers_after limit.Ids bound these left) × Spells these hints
 
-pub reading_first : (form : Form) (bound : ℕ) (old : Reader) (before : Outside) (hints : Hints) → hints.prefix ≡ [] → hints.groups ≡ [] → Reading form bound old old before before hints
-reading_first form bound old before hints p q all h = (all, h, ([], refl, (sym p, sym q)))
+pub reading_first : (bound : ℕ) (all : Tokens) (hints : Hints) → hints.prefix ≡ [] → hints.groups ≡ [] → Reading bound all all hints
+reading_first bound all hints p q = ([], refl, (sym p, sym q))
 
 -- no further token
-pub reading_stop : (form : Form) (bound : ℕ) (old mid new : Reader) (before between after : Outside) (hints : Hints) (left : Option Texts) (e : InFault)
-    → Reading form bound old mid before between hints → GivesFront form 2 1 mid new between after (Err e) → GivesHints bound (tokens_left form 2 1 old before) left (Err e)
-reading_stop form bound old mid new before between after hints left e inv given all h =
-    let s = inv all h in
-    subst (StopsNumbers e) (sym s.2.1) (front_stop form 2 1 mid new between after e given limit.Ids bound s.2.0 s.0 s.1)
+pub reading_stop : (bound : ℕ) (all mid left : Tokens) (hints : Hints) (e : InputError) → Reading bound all mid hints → RefusesToken mid e → GivesHints bound all left (Err e)
+reading_stop bound all mid left hints e r given = subst (λ x. Refuses x e) (sym r.1) (refused_numbers limit.Ids bound r.0 mid e given)
 
 -- a token
-reading_next : (form : Form) (bound : ℕ) (old mid new : Reader) (before between after : Outside) (hints : Hints) (t : Token)
-    → Reading form bound old mid before between hints → GivesFront form 2 1 mid new between after (Ok t) → (all : Texts) → tokens_left form 2 1 old before ≡ Some all
-    → (rest : Texts) × (tokens_left form 2 (open_after 2 1 t.word) new after ≡ Some rest) × (these : List ℤ) × (numbers_after limit.Ids bound [] all ≡ numbers_after limit.Ids bound these (next t rest)) × Spells these hints
-reading_next form bound old mid new before between after hints t inv given all h =
-    let s = inv all h in
-    let f = front_next (tokens_left form 2 1 mid between) (tokens_left form 2 (open_after 2 1 t.word) new after) t given s.0 s.1 in
-    (f.0, f.1, s.2.0, s.2.1 ∙ f.2 limit.Ids bound s.2.0, s.2.2)
+reading_next : (bound : ℕ) (all mid left : Tokens) (hints : Hints) (t : Token) → (r : Reading bound all mid hints) → GivesToken mid left (Ok t)
+    → numbers_after limit.Ids bound [] all ≡ numbers_after limit.Ids bound r.0 (next t left)
+reading_next bound all mid left hints t r given = r.1 ∙ ap (numbers_after limit.Ids bound r.0) given.0 ∙ front_numbers limit.Ids bound r.0 t left
 
 -- one that is no number, and one above the bound
-pub reading_default : (form : Form) (bound : ℕ) (old mid new : Reader) (before between after : Outside) (hints : Hints) (left : Option Texts) (t : Token)
-    → Reading form bound old mid before between hints → GivesFront form 2 1 mid new between after (Ok t) → ((x : ℤ) → t.word ≡ word.Number x → ⊥)
-    → GivesHints bound (tokens_left form 2 1 old before) left (Err (Text (misplaced t.word) t.place))
-reading_default form bound old mid new before between after hints left t inv given n all h =
-    let f = reading_next form bound old mid new before between after hints t inv given all h in
-    f.3 ∙ at_default limit.Ids bound f.2 t f.0 n
+pub reading_default : (bound : ℕ) (all mid left after : Tokens) (hints : Hints) (t : Token) → Reading bound all mid hints → GivesToken mid left (Ok t) → ((x : ℤ) → t.word ≡ word.Number x → ⊥)
+    → GivesHints bound all after (Err (Text (misplaced t.word) t.place))
+reading_default bound all mid left after hints t r given n = reading_next bound all mid left hints t r given ∙ at_default limit.Ids bound r.0 t left n
 
-pub reading_above : (form : Form) (bound : ℕ) (old mid new : Reader) (before between after : Outside) (hints : Hints) (left : Option Texts) (t : Token) (x : ℤ)
-    → Reading form bound old mid before between hints → GivesFront form 2 1 mid new between after (Ok t) → t.word ≡ word.Number x → (x ≡ pos 0 → ⊥) → bound < nat_abs x
-    → GivesHints bound (tokens_left form 2 1 old before) left (Err (Limit limit.Ids))
-reading_above form bound old mid new before between after hints left t x inv given e some past all h =
-    let f = reading_next form bound old mid new before between after hints t inv given all h in
-    f.3 ∙ at_number limit.Ids bound f.2 t x f.0 e
-    ∙ by_number_above limit.Ids bound x t.place f.2 f.0 (numbers_after limit.Ids bound (f.2 ++ x ∷ []) f.0) some past
+pub reading_above : (bound : ℕ) (all mid left after : Tokens) (hints : Hints) (t : Token) (x : ℤ) → Reading bound all mid hints → GivesToken mid left (Ok t) → t.word ≡ word.Number x → (x ≡ pos 0 → ⊥)
+    → bound < nat_abs x → GivesHints bound all after (Err (Limit limit.Ids))
+reading_above bound all mid left after hints t x r given e some past =
+    reading_next bound all mid left hints t r given ∙ at_number limit.Ids bound r.0 t x left e
+    ∙ by_number_above limit.Ids bound x t.place r.0 left (numbers_after limit.Ids bound (r.0 ++ x ∷ []) left) some past
 
 -- the end of the hints
-pub reading_end : (form : Form) (bound : ℕ) (old mid new : Reader) (before between after : Outside) (hints : Hints) (t : Token) (x : ℤ)
-    → Reading form bound old mid before between hints → GivesFront form 2 1 mid new between after (Ok t) → t.word ≡ word.Number x → x ≡ pos 0
-    → GivesHints bound (tokens_left form 2 1 old before) (tokens_left form 2 0 new after) (Ok (hints.prefix, hints.groups))
-reading_end form bound old mid new before between after hints t x inv given e z all h =
-    let f = reading_next form bound old mid new before between after hints t inv given all h in (
-      f.0,
-      ap (λ (k : ℕ). tokens_left form 2 k new after) (sym (open_zero 2 0 t.word x e z)) ∙ f.1,
-      (
-        f.2,
-        t.place,
-        f.3 ∙ at_number limit.Ids bound f.2 t x f.0 e ∙ ap (λ y. by_number limit.Ids bound y t.place f.2 f.0 (numbers_after limit.Ids bound (f.2 ++ y ∷ []) f.0)) z,
-        f.4.0,
-        f.4.1,
-      ),
+pub reading_end : (form : Form) (bound : ℕ) (all : Tokens) (mid new : Reader) (c : Contents) (hints : Hints) (t : Token) (x : ℤ) → Reading bound all (tokens_left form 2 1 mid c) hints → GivesFront form 2 1 mid new c (Ok t)
+    → t.word ≡ word.Number x → x ≡ pos 0 → GivesHints bound all (tokens_left form 2 0 new c) (Ok (hints.prefix, hints.groups))
+reading_end form bound all mid new c hints t x r given e z =
+    let left : Tokens = tokens_left form 2 (open_after 2 1 t.word) new c in (
+      r.0,
+      t.place,
+      reading_next bound all (tokens_left form 2 1 mid c) left hints t r given ∙ at_number limit.Ids bound r.0 t x left e
+          ∙ ap (λ y. by_number limit.Ids bound y t.place r.0 left (numbers_after limit.Ids bound (r.0 ++ y ∷ []) left)) z
+          ∙ ap (λ (k : ℕ). reads (r.0, t.place) (tokens_left form 2 k new c)) (open_zero 2 0 t.word x e z),
+      r.2.0,
+      r.2.1,
     )
 
 -- one number more
-pub reading_more : (form : Form) (bound : ℕ) (old mid new : Reader) (before between after : Outside) (hints hints' : Hints) (t : Token) (x : ℤ)
-    → Reading form bound old mid before between hints → GivesFront form 2 1 mid new between after (Ok t) → t.word ≡ word.Number x → (x ≡ pos 0 → ⊥) → nat_abs x ≤ bound
-    → SpellsMore hints hints' x → Reading form bound old new before after hints'
-reading_more form bound old mid new before between after hints hints' t x inv given e some within more all h =
-    let f = reading_next form bound old mid new before between after hints t inv given all h in (
-      f.0,
-      ap (λ (k : ℕ). tokens_left form 2 k new after) (sym (open_number 2 0 t.word x e some)) ∙ f.1,
-      (
-        f.2 ++ x ∷ [],
-        f.3 ∙ at_number limit.Ids bound f.2 t x f.0 e
-            ∙ by_number_more limit.Ids bound x t.place f.2 f.0 (numbers_after limit.Ids bound (f.2 ++ x ∷ []) f.0) some within,
-        more f.2 f.4,
-      ),
+pub reading_more : (form : Form) (bound : ℕ) (all : Tokens) (mid new : Reader) (c : Contents) (hints hints' : Hints) (t : Token) (x : ℤ) → Reading bound all (tokens_left form 2 1 mid c) hints
+    → GivesFront form 2 1 mid new c (Ok t) → t.word ≡ word.Number x → (x ≡ pos 0 → ⊥) → nat_abs x ≤ bound → SpellsMore hints hints' x → Reading bound all (tokens_left form 2 1 new c) hints'
+reading_more form bound all mid new c hints hints' t x r given e some inside more =
+    let left : Tokens = tokens_left form 2 (open_after 2 1 t.word) new c in (
+      r.0 ++ x ∷ [],
+      reading_next bound all (tokens_left form 2 1 mid c) left hints t r given ∙ at_number limit.Ids bound r.0 t x left e
+          ∙ by_number_more limit.Ids bound x t.place r.0 left (numbers_after limit.Ids bound (r.0 ++ x ∷ []) left) some inside
+          ∙ ap (λ (k : ℕ). numbers_after limit.Ids bound (r.0 ++ x ∷ []) (tokens_left form 2 k new c)) (open_number 2 0 t.word x e some),
+      more r.0 r.2,
     )
 
 -- the hints at hand were taken
@@ -113,13 +95,15 @@ pub on_ok : {T E : Type 0} (result : Result T E) (P : Type 0) → is_err result 
 on_ok (Ok x) P e h = h
 on_ok (Err k) P e h = absurd (cc)
 
-pub reading_ahead : {T E : Type 0} (result : Result T E) (form : Form) (bound : ℕ) (old mid new : Reader) (before between : Outside) (hints hints' : Hints) → is_err result ≡ false
-    → OnOk result ((o : Outside) (lists open_lists : ℕ) → 0 < open_lists → GoesOn bound (tokens_left form lists open_lists mid o) (tokens_left form lists open_lists new o) hints hints')
-    → Reading form bound old mid before between hints → Reading form bound old new before between hints'
-reading_ahead result form bound old mid new before between hints hints' went goes inv all h =
-    let s = inv all h in
-    let f = on_ok result _ went goes between 2 1 (omega arith) s.2.0 s.2.2 s.0 s.1 in
-    (f.0, f.1, (f.2.0, s.2.1 ∙ f.2.1, f.2.2))
+pub reading_ahead : {T E : Type 0} (result : Result T E) (form : Form) (bound : ℕ) (old mid new : Reader) (o : Outside) (c : Contents) (hints hints' : Hints) → is_err result ≡ false
+    → OnOk result (TakesHints form bound mid new hints hints') → Stands mid o → Skips mid new → Agrees (o.slot new.slot) c
+    → ((c : Contents) → Agrees (o.slot mid.slot) c → Reading bound (tokens_left form 2 1 old c) (tokens_left form 2 1 mid c) hints)
+    → Reading bound (tokens_left form 2 1 old c) (tokens_left form 2 1 new c) hints'
+reading_ahead result form bound old mid new o c hints hints' went goes stands skips h inv =
+    let before = agreed (Reads-skips mid new o stands skips) h in
+    let r = inv c before in
+    let f = on_ok result _ went goes c before.more 2 1 (remaining-ahead c stands before) (omega arith) r.0 r.2 in
+    (f.0, r.1 ∙ f.1, f.2)
 
 -- the number of a size
 pub signed-size : (b : Bool) (n : ℕ) → n ≢ 0 → nat_abs (signed b n) ≡ n
@@ -136,28 +120,19 @@ signed-is (negsuc n) size some e = let down : size - 1 ≡ n = omega (arith, e) 
 
 -- what a value of a binary file says
 pub value_says : (v size : ℕ) (b : Bool) → v < 2 ^ 63 → size ≡ v / 2 → size ≢ 0 → b ≡ (v % 2 == 1) → value_word v ≡ Ok (word.Number (signed b size))
-value_says v size b small half some odd = go (v % 2 == 0) refl
+value_says v size b small half some odd =
+    let fits : nat_lt (v / 2) (2 ^ 63) ≡ true = grind (arith, nat_tests) in
+    let ne : (v / 2 == 0) ≡ false = grind (arith, nat_tests) in
+    go (v % 2 == 1) refl fits ne
   where
-    go : (t : Bool) → (v % 2 == 0) ≡ t → value_word v ≡ Ok (word.Number (signed b size))
-    go true t =
-        let fits : nat_lt v (2 ^ 64) ≡ true = grind (arith, nat_tests) in
-        let more : (v == 1) ≡ false = grind (arith, nat_tests) in
-        let even : (v % 2 == 1) ≡ false = grind (arith, nat_tests) in
-        rw (fits, more, t, odd, even, half) refl
-    go false t =
-        let fits : nat_lt v (2 ^ 64) ≡ true = grind (arith, nat_tests) in
-        let more : (v == 1) ≡ false = grind (arith, nat_tests) in
-        let one : (v % 2 == 1) ≡ true = grind (arith, nat_tests) in
-        rw (fits, more, t, odd, one, half) refl
+    go : (t : Bool) → (v % 2 == 1) ≡ t → nat_lt (v / 2) (2 ^ 63) ≡ true → (v / 2 == 0) ≡ false → value_word v ≡ Ok (word.Number (signed b size))
+    go true t fits ne = rw (t, ne, fits, odd, t, half) refl
+    go false t fits ne = rw (t, fits, odd, t, half) refl
 
 -- a run of hints at hand
-skipped-none : (r : Reader) → skipped r 0 ≡ r
-skipped-none r = let e : r.taken + 0 ≡ r.taken = omega arith in rw e refl
-
-pub run_none : (form : Form) (bound : ℕ) (r : Reader) (o : Outside) (lists open_lists : ℕ) (hints : Hints)
-    → GoesOn bound (tokens_left form lists open_lists r o) (tokens_left form lists open_lists (skipped r 0) o) hints hints
-run_none form bound r o lists open_lists hints these s all h =
-    (all, ap (λ (r : Reader). tokens_left form lists open_lists r o) (skipped-none r) ∙ h, (these, refl, s))
+pub run_none : (form : Form) (bound : ℕ) (r : Reader) (hints : Hints) → TakesHints form bound r (skipped r 0) hints hints
+run_none form bound r hints c more lists open_lists ahead some these s =
+    (these, ap (λ (r : Reader). numbers_after limit.Ids bound these (tokens_left form lists open_lists r c)) (sym (skipped-none r)), s)
 
 pub leads_at : (form : Form) (r : Reader) (bytes : List ℕ) (at bound : ℕ) (front : LeadingHint) → bytes ≡ buffered r → LeadsHint form (take (length bytes - at) (drop at bytes)) bound front
     → LeadsHint form (drop at (buffered r)) bound front
@@ -168,37 +143,31 @@ open-stays lists zero x some ne = absurd (omega arith)
 open-stays lists (suc k) x some ne = open_number lists k (word.Number x) x refl ne
 
 -- a number behind those that were taken stands first among the tokens that are left
-number_first : (form : Form) (r : Reader) (at len size : ℕ) (negative : Bool) (o : Outside) (lists open_lists : ℕ) → SpellsNumber form (drop at (buffered r)) len size negative → size ≢ 0
-    → at ≤ length (buffered r) → 0 < open_lists
-    → (place : ℕ) × StandsFirst (tokens_left form lists open_lists (skipped r at) o) (tokens_left form lists open_lists (skipped r (at + len)) o) place (word.Number (signed negative size))
-number_first form.Text r at len size negative o lists open_lists spells ne le some = (r.taken + at + spells.start, text_run_front r at len size negative o lists open_lists open_lists spells le)
-number_first form.Binary r at len size negative o lists open_lists spells ne le some =
+number_first : (form : Form) (r : Reader) (at len size : ℕ) (negative : Bool) (c : Contents) (more : List ℕ) (lists open_lists : ℕ) → SpellsNumber form (drop at (buffered r)) len size negative → size ≢ 0
+    → at ≤ length (buffered r) → 0 < open_lists → remaining r c ≡ r.ahead ++ more
+    → (place : ℕ) × (tokens_left form lists open_lists (skipped r at) c ≡ next (record { place = place; word = word.Number (signed negative size) }) (tokens_left form lists open_lists (skipped r (at + len)) c))
+number_first form.Text r at len size negative c more lists open_lists spells ne le some ahead = (r.taken + at + spells.start, text_run_front r at len size negative c more spells le ahead)
+number_first form.Binary r at len size negative c more lists open_lists spells ne le some ahead =
     let x : ℤ = signed negative size in
     let stays = open-stays lists open_lists x some (signed-some negative size ne) in (
       r.taken + at,
-      rw stays at (run_front r at len spells.0 (word.Number x) o lists open_lists spells.1 spells.2 some le),
+      rw stays at (run_front r at len spells.0 (word.Number x) c more lists open_lists spells.1 spells.2 some le ahead),
     )
 
-pub run_more : (form : Form) (bound : ℕ) (r : Reader) (at : ℕ) (front : LeadingHint) (first : Option Texts) (o : Outside) (lists open_lists : ℕ) (start hints hints' : Hints)
-    → LeadsHint form (drop at (buffered r)) bound front → at ≤ length (buffered r) → 0 < open_lists → SpellsMore hints hints' (hint_number front.hint)
-    → GoesOn bound first (tokens_left form lists open_lists (skipped r at) o) start hints
-    → GoesOn bound first (tokens_left form lists open_lists (skipped r (at + front.len)) o) start hints'
-run_more form bound r at front first o lists open_lists start hints hints' leads le some more inv these s all h =
-    let g = inv these s all h in
+pub run_more : (form : Form) (bound : ℕ) (r : Reader) (at : ℕ) (front : LeadingHint) (start hints hints' : Hints) → LeadsHint form (drop at (buffered r)) bound front → at ≤ length (buffered r)
+    → SpellsMore hints hints' (hint_number front.hint) → TakesHints form bound r (skipped r at) start hints → TakesHints form bound r (skipped r (at + front.len)) start hints'
+run_more form bound r at front start hints hints' leads le longer inv c more lists open_lists ahead some these s =
+    let g = inv c more lists open_lists ahead some these s in
     let x : ℤ = hint_number front.hint in
     let ne : x ≡ pos 0 → ⊥ = signed-some front.hint.begins_group front.hint.size leads.some in
-    let within : nat_abs x ≤ bound = rw (signed-size front.hint.begins_group front.hint.size leads.some) leads.within in
-    let stands = number_first form r at front.len front.hint.size front.hint.begins_group o lists open_lists leads.spells leads.some le some in
-    let t : Token = record { place = stands.0; word = word.Number x } in
-    let f = stands.1 g.0 g.1 in (
-      f.0,
-      f.2,
-      (
-        g.2.0 ++ x ∷ [],
-        g.2.1 ∙ ap (numbers_after limit.Ids bound g.2.0) f.1 ∙ at_number limit.Ids bound g.2.0 t x f.0 refl
-            ∙ by_number_more limit.Ids bound x t.place g.2.0 f.0 (numbers_after limit.Ids bound (g.2.0 ++ x ∷ []) f.0) ne within,
-        more g.2.0 g.2.2,
-      ),
+    let inside : nat_abs x ≤ bound = rw (signed-size front.hint.begins_group front.hint.size leads.some) leads.within in
+    let first = number_first form r at front.len front.hint.size front.hint.begins_group c more lists open_lists leads.spells leads.some le some ahead in
+    let t : Token = record { place = first.0; word = word.Number x } in
+    let left : Tokens = tokens_left form lists open_lists (skipped r (at + front.len)) c in (
+      g.0 ++ x ∷ [],
+      g.1 ∙ ap (numbers_after limit.Ids bound g.0) first.1 ∙ at_number limit.Ids bound g.0 t x left refl
+          ∙ by_number_more limit.Ids bound x t.place g.0 left (numbers_after limit.Ids bound (g.0 ++ x ∷ []) left) ne inside,
+      longer g.0 g.2,
     )
 
 -- a negative number begins a group

@@ -1,5 +1,5 @@
 -- What the first tokens of an item tell.
-use Rattle.std.proofs.Common.{◌≡◌, ◌∙◌, ◌==◌, ℕ, ℤ, pos, negsuc, zero, suc, ◌<◌, ◌≤◌, refl, sym, ap, [], true, false, Ok, Err, arith}
+use Rattle.std.proofs.Common.{◌≡◌, ◌∙◌, ◌==◌, ℕ, ℤ, pos, negsuc, zero, suc, ◌<◌, ◌≤◌, refl, sym, ap, [], true, false, None, Ok, Err, arith}
 use Rattle.std.specs.Prelude.{nat_abs, nat_le}
 use Rattle.std.proofs.lemmas.Int.{ints}
 use Rattle.std.proofs.lemmas.Bool.Decides.{nat_tests}
@@ -9,38 +9,40 @@ use Rattle.sr_base.specs.declared.names.TextKind.TheVariants.{BadNumber, BadWord
 use Rattle.sr_model.specs.declared.tokens.Word.{Word}
 use Rattle.sr_model.specs.declared.tokens.Word.TheVariants as word
 use Rattle.sr_model.specs.declared.tokens.Token.{Token}
-use Rattle.sr_model.specs.Texts.{Texts, next}
-use Rattle.sr_model.specs.Lsr.{none, misspells, passes, numbers_after, with_literals, dropped_after, kind_at, by_id, item_at}
-use Rattle.sr_model.specs.LsrBinary.{by_step_number, binary_step_at, binary_item_at}
-use Rattle.sr_wit.specs.declared.fault.InFault.{InFault}
-use Rattle.sr_wit.specs.declared.fault.InFault.TheVariants.{Text, Limit, Source, NoMemory}
-use Rattle.sr_lemma.specs.Laws.{front_word}
-use Rattle.sr_lemma.specs.Reads.{misplaced}
-use Rattle.sr_lsr.specs.Reads.{StopsItem, GivesSize}
-use Rattle.sr_lsr.proofs.BeginLemmas.{stops_same, HandsOn}
+use Rattle.sr_model.specs.Tokens.{Tokens, finished, next}
+use Rattle.sr_base.specs.declared.names.Form.{Form}
+use Rattle.sr_base.specs.declared.names.Form.TheVariants as form
+use Rattle.sr_model.specs.Reading.{reads, misspells, passes}
+use Rattle.sr_model.specs.Lsr.{numbers_after, with_literals, dropped_after, kind_at, by_id, item_at}
+use Rattle.sr_model.specs.LsrBinary.{by_step_number, binary_step_at, binary_item_at, item_in}
+use Rattle.sr_base.specs.declared.names.InputError.{InputError}
+use Rattle.sr_base.specs.declared.names.InputError.TheVariants.{Text, Limit, Source, NoMemory}
+use Rattle.sr_scan.specs.Left.{front_word, misplaced, Refuses}
+use Rattle.sr_lsr.specs.Reads.{GivesSize}
+use Rattle.sr_lsr.proofs.BeginLemmas.{refuses_same, HandsOn}
 
 -- what stops the tokens
 pub numbered_hands_on : (lim : LimitValues) (id at : ℕ) → HandsOn (kind_at lim id at)
-numbered_hands_on lim id at = record { misspelled = λ kind place. refl; past = refl }
+numbered_hands_on lim id at = record { misspelled = λ kind place. refl; past = refl; failed = refl }
 
 pub binary_step_hands_on : (lim : LimitValues) → HandsOn (binary_step_at lim)
-binary_step_hands_on lim = record { misspelled = λ kind place. refl; past = refl }
+binary_step_hands_on lim = record { misspelled = λ kind place. refl; past = refl; failed = refl }
 
 -- a size that isn't 0
 pub some_size : (x : ℤ) (n ids place : ℕ) → GivesSize x ids place (Ok n) → (n ≡ 0 → ⊥) → x ≡ pos 0 → ⊥
 some_size x n ids place g some z = some (ap nat_abs (sym g.0 ∙ z))
 
 -- behind the number of an item of a text: `d`, another number, and what else stands there
-pub kind_deletion : (lim : LimitValues) (ids id at : ℕ) (t : Token) (rest : Texts) → ids ≡ lim.ids → t.word ≡ word.Del → kind_at lim id at (front_word t.place t.word rest) ≡ dropped_after ids id [] rest
+pub kind_deletion : (lim : LimitValues) (ids id at : ℕ) (t : Token) (rest : Tokens) → ids ≡ lim.ids → t.word ≡ word.Del → kind_at lim id at (front_word t.place t.word rest) ≡ dropped_after ids id [] rest
 kind_deletion lim ids id at t rest i e = ap (λ w. kind_at lim id at (front_word t.place w rest)) e ∙ ap (λ (n : ℕ). dropped_after n id [] rest) (sym i)
 
-pub kind_step : (lim : LimitValues) (id at : ℕ) (t : Token) (x : ℤ) (rest : Texts) → t.word ≡ word.Number x → (id ≡ 0 → ⊥)
+pub kind_step : (lim : LimitValues) (id at : ℕ) (t : Token) (x : ℤ) (rest : Tokens) → t.word ≡ word.Number x → (id ≡ 0 → ⊥)
     → kind_at lim id at (front_word t.place t.word rest) ≡ with_literals lim id (numbers_after limit.Vars lim.vars [] (next t rest))
 kind_step lim id at t x rest e some =
     let other : (id == 0) ≡ false = grind (arith, nat_tests) in
     ap (λ w. kind_at lim id at (front_word t.place w rest)) e ∙ rw other refl ∙ ap (λ w. with_literals lim id (numbers_after limit.Vars lim.vars [] (next (record { place = t.place; word = w }) rest))) (sym e)
 
-pub kind_other : (lim : LimitValues) (id at : ℕ) (t : Token) (rest : Texts) → (t.word ≡ word.Del → ⊥) → ((x : ℤ) → t.word ≡ word.Number x → ⊥)
+pub kind_other : (lim : LimitValues) (id at : ℕ) (t : Token) (rest : Tokens) → (t.word ≡ word.Del → ⊥) → ((x : ℤ) → t.word ≡ word.Number x → ⊥)
     → kind_at lim id at (front_word t.place t.word rest) ≡ misspells (misplaced t.word) t.place
 kind_other lim id at t rest d n = by t.word d n
   where
@@ -55,26 +57,22 @@ kind_other lim id at t rest d n = by t.word d n
     by word.Other d n = refl
 
 -- the number of an item of a text
-pub text_end : (lim : LimitValues) (t : Token) (rest : Texts) → t.word ≡ word.End → item_at lim (front_word t.place t.word rest) ≡ none
-unfolding item_at
-text_end lim t rest e = ap (λ w. item_at lim (front_word t.place w rest)) e
-
-text_number : (lim : LimitValues) (t : Token) (x : ℤ) (rest : Texts) → t.word ≡ word.Number x → item_at lim (front_word t.place t.word rest) ≡ by_id lim (word.Number x) t.place rest
+text_number : (lim : LimitValues) (t : Token) (x : ℤ) (rest : Tokens) → t.word ≡ word.Number x → item_at lim (front_word t.place t.word rest) ≡ by_id lim (word.Number x) t.place rest
 unfolding item_at
 text_number lim t x rest e = ap (λ w. item_at lim (front_word t.place w rest)) e
 
-pub text_numbered : (lim : LimitValues) (ids : ℕ) (t : Token) (x : ℤ) (n : ℕ) (rest : Texts) → ids ≡ lim.ids → t.word ≡ word.Number x → GivesSize x ids t.place (Ok n)
+pub text_numbered : (lim : LimitValues) (ids : ℕ) (t : Token) (x : ℤ) (n : ℕ) (rest : Tokens) → ids ≡ lim.ids → t.word ≡ word.Number x → GivesSize x ids t.place (Ok n)
     → item_at lim (front_word t.place t.word rest) ≡ kind_at lim n t.place rest
 text_numbered lim ids t x n rest i e g =
     let within : n ≤ lim.ids = omega (arith, g.1, i) in
     let test : nat_le n lim.ids ≡ true = grind (arith, nat_tests) in
     text_number lim t x rest e ∙ ap (λ y. by_id lim (word.Number y) t.place rest) g.0 ∙ rw test refl
 
-pub text_fault : (lim : LimitValues) (ids : ℕ) (t : Token) (x : ℤ) (rest : Texts) (e : InFault) → ids ≡ lim.ids → t.word ≡ word.Number x → GivesSize x ids t.place (Err e)
-    → StopsItem e (item_at lim (front_word t.place t.word rest))
-text_fault lim ids t x rest e i is g = stops_same e (item_at lim (front_word t.place t.word rest)) (by_id lim (word.Number x) t.place rest) (text_number lim t x rest is) (at x e g)
+pub text_fault : (lim : LimitValues) (ids : ℕ) (t : Token) (x : ℤ) (rest : Tokens) (e : InputError) → ids ≡ lim.ids → t.word ≡ word.Number x → GivesSize x ids t.place (Err e)
+    → Refuses (item_at lim (front_word t.place t.word rest)) e
+text_fault lim ids t x rest e i is g = refuses_same e (item_at lim (front_word t.place t.word rest)) (by_id lim (word.Number x) t.place rest) (text_number lim t x rest is) (at x e g)
   where
-    at : (x : ℤ) (e : InFault) → GivesSize x ids t.place (Err e) → StopsItem e (by_id lim (word.Number x) t.place rest)
+    at : (x : ℤ) (e : InputError) → GivesSize x ids t.place (Err e) → Refuses (by_id lim (word.Number x) t.place rest) e
     at (pos n) (Text kind place) g = absurd (omega (arith, ints, g.0))
     at (negsuc n) (Text kind place) g = ap (λ k. misspells k t.place) (sym g.1) ∙ ap (misspells kind) (sym g.2)
     at (pos n) (Limit kind) g =
@@ -84,7 +82,7 @@ text_fault lim ids t x rest e i is g = stops_same e (item_at lim (front_word t.p
     at x Source g = absurd g
     at x NoMemory g = absurd g
 
-pub text_other : (lim : LimitValues) (t : Token) (rest : Texts) → (t.word ≡ word.End → ⊥) → ((x : ℤ) → t.word ≡ word.Number x → ⊥) → item_at lim (front_word t.place t.word rest) ≡ misspells BadWord t.place
+pub text_other : (lim : LimitValues) (t : Token) (rest : Tokens) → (t.word ≡ word.End → ⊥) → ((x : ℤ) → t.word ≡ word.Number x → ⊥) → item_at lim (front_word t.place t.word rest) ≡ misspells BadWord t.place
 unfolding item_at
 text_other lim t rest e n = by t.word e n
   where
@@ -99,14 +97,14 @@ text_other lim t rest e n = by t.word e n
     by word.Other e n = refl
 
 -- the number of a step of a binary file
-step_number : (lim : LimitValues) (t : Token) (x : ℤ) (rest : Texts) → t.word ≡ word.Number x → binary_step_at lim (front_word t.place t.word rest) ≡ by_step_number lim (word.Number x) t.place rest
+step_number : (lim : LimitValues) (t : Token) (x : ℤ) (rest : Tokens) → t.word ≡ word.Number x → binary_step_at lim (front_word t.place t.word rest) ≡ by_step_number lim (word.Number x) t.place rest
 step_number lim t x rest e = ap (λ w. binary_step_at lim (front_word t.place w rest)) e
 
-pub step_zero : (lim : LimitValues) (ids : ℕ) (t : Token) (x : ℤ) (n : ℕ) (rest : Texts) → t.word ≡ word.Number x → GivesSize x ids t.place (Ok n) → n ≡ 0
+pub step_zero : (lim : LimitValues) (ids : ℕ) (t : Token) (x : ℤ) (n : ℕ) (rest : Tokens) → t.word ≡ word.Number x → GivesSize x ids t.place (Ok n) → n ≡ 0
     → binary_step_at lim (front_word t.place t.word rest) ≡ misspells BadNumber t.place
 step_zero lim ids t x n rest e g z = step_number lim t x rest e ∙ ap (λ y. by_step_number lim (word.Number y) t.place rest) (g.0 ∙ ap pos z)
 
-pub step_numbered : (lim : LimitValues) (ids : ℕ) (t : Token) (x : ℤ) (n : ℕ) (rest : Texts) → ids ≡ lim.ids → t.word ≡ word.Number x → GivesSize x ids t.place (Ok n) → (n ≡ 0 → ⊥)
+pub step_numbered : (lim : LimitValues) (ids : ℕ) (t : Token) (x : ℤ) (n : ℕ) (rest : Tokens) → ids ≡ lim.ids → t.word ≡ word.Number x → GivesSize x ids t.place (Ok n) → (n ≡ 0 → ⊥)
     → binary_step_at lim (front_word t.place t.word rest) ≡ with_literals lim n (numbers_after limit.Vars lim.vars [] rest)
 step_numbered lim ids t x zero rest i e g some = absurd (some refl)
 step_numbered lim ids t x (suc n) rest i e g some =
@@ -114,11 +112,11 @@ step_numbered lim ids t x (suc n) rest i e g some =
     let test : nat_le (suc n) lim.ids ≡ true = grind (arith, nat_tests) in
     step_number lim t x rest e ∙ ap (λ y. by_step_number lim (word.Number y) t.place rest) g.0 ∙ rw test refl
 
-pub step_fault : (lim : LimitValues) (ids : ℕ) (t : Token) (x : ℤ) (rest : Texts) (e : InFault) → ids ≡ lim.ids → t.word ≡ word.Number x → GivesSize x ids t.place (Err e)
-    → StopsItem e (binary_step_at lim (front_word t.place t.word rest))
-step_fault lim ids t x rest e i is g = stops_same e (binary_step_at lim (front_word t.place t.word rest)) (by_step_number lim (word.Number x) t.place rest) (step_number lim t x rest is) (at x e g)
+pub step_fault : (lim : LimitValues) (ids : ℕ) (t : Token) (x : ℤ) (rest : Tokens) (e : InputError) → ids ≡ lim.ids → t.word ≡ word.Number x → GivesSize x ids t.place (Err e)
+    → Refuses (binary_step_at lim (front_word t.place t.word rest)) e
+step_fault lim ids t x rest e i is g = refuses_same e (binary_step_at lim (front_word t.place t.word rest)) (by_step_number lim (word.Number x) t.place rest) (step_number lim t x rest is) (at x e g)
   where
-    at : (x : ℤ) (e : InFault) → GivesSize x ids t.place (Err e) → StopsItem e (by_step_number lim (word.Number x) t.place rest)
+    at : (x : ℤ) (e : InputError) → GivesSize x ids t.place (Err e) → Refuses (by_step_number lim (word.Number x) t.place rest) e
     at (pos n) (Text kind place) g = absurd (omega (arith, ints, g.0))
     at (negsuc n) (Text kind place) g = ap (λ k. misspells k t.place) (sym g.1) ∙ ap (misspells kind) (sym g.2)
     at (pos zero) (Limit kind) g = absurd (omega (arith, g.1))
@@ -129,7 +127,7 @@ step_fault lim ids t x rest e i is g = stops_same e (binary_step_at lim (front_w
     at x Source g = absurd g
     at x NoMemory g = absurd g
 
-pub step_other : (lim : LimitValues) (t : Token) (rest : Texts) → ((x : ℤ) → t.word ≡ word.Number x → ⊥) → binary_step_at lim (front_word t.place t.word rest) ≡ misspells (misplaced t.word) t.place
+pub step_other : (lim : LimitValues) (t : Token) (rest : Tokens) → ((x : ℤ) → t.word ≡ word.Number x → ⊥) → binary_step_at lim (front_word t.place t.word rest) ≡ misspells (misplaced t.word) t.place
 step_other lim t rest n = by t.word n
   where
     by : (w : Word) → ((x : ℤ) → w ≡ word.Number x → ⊥) → binary_step_at lim (front_word t.place w rest) ≡ misspells (misplaced w) t.place
@@ -143,19 +141,15 @@ step_other lim t rest n = by t.word n
     by word.Other n = refl
 
 -- the byte that begins an item of a binary file
-pub binary_end : (lim : LimitValues) (t : Token) (rest : Texts) → t.word ≡ word.End → binary_item_at lim (front_word t.place t.word rest) ≡ none
-unfolding binary_item_at
-binary_end lim t rest e = ap (λ w. binary_item_at lim (front_word t.place w rest)) e
-
-pub binary_step : (lim : LimitValues) (t : Token) (rest : Texts) → t.word ≡ word.Add → binary_item_at lim (front_word t.place t.word rest) ≡ binary_step_at lim rest
+pub binary_step : (lim : LimitValues) (t : Token) (rest : Tokens) → t.word ≡ word.Add → binary_item_at lim (front_word t.place t.word rest) ≡ binary_step_at lim rest
 unfolding binary_item_at
 binary_step lim t rest e = ap (λ w. binary_item_at lim (front_word t.place w rest)) e
 
-pub binary_deletion : (lim : LimitValues) (ids : ℕ) (t : Token) (rest : Texts) → ids ≡ lim.ids → t.word ≡ word.Del → binary_item_at lim (front_word t.place t.word rest) ≡ dropped_after ids 0 [] rest
+pub binary_deletion : (lim : LimitValues) (ids : ℕ) (t : Token) (rest : Tokens) → ids ≡ lim.ids → t.word ≡ word.Del → binary_item_at lim (front_word t.place t.word rest) ≡ dropped_after ids 0 [] rest
 unfolding binary_item_at
 binary_deletion lim ids t rest i e = ap (λ w. binary_item_at lim (front_word t.place w rest)) e ∙ ap (λ (n : ℕ). dropped_after n 0 [] rest) (sym i)
 
-pub binary_other : (lim : LimitValues) (t : Token) (rest : Texts) → (t.word ≡ word.End → ⊥) → (t.word ≡ word.Add → ⊥) → (t.word ≡ word.Del → ⊥)
+pub binary_other : (lim : LimitValues) (t : Token) (rest : Tokens) → (t.word ≡ word.End → ⊥) → (t.word ≡ word.Add → ⊥) → (t.word ≡ word.Del → ⊥)
     → binary_item_at lim (front_word t.place t.word rest) ≡ misspells BadWord t.place
 unfolding binary_item_at
 binary_other lim t rest e a d = by t.word e a d
@@ -169,3 +163,14 @@ binary_other lim t rest e a d = by t.word e a d
     by word.Cnf e a d = refl
     by word.Percent e a d = refl
     by word.Other e a d = refl
+
+-- the end of the file, and what stops the first token of an item
+pub item_none : (f : Form) (lim : LimitValues) (place : ℕ) → item_in f lim (finished place) ≡ reads None (finished place)
+unfolding item_at binary_item_at
+item_none form.Text lim place = refl
+item_none form.Binary lim place = refl
+
+pub items_hand_on : (f : Form) (lim : LimitValues) → HandsOn (item_in f lim)
+unfolding item_at binary_item_at
+items_hand_on form.Text lim = record { misspelled = λ kind place. refl; past = refl; failed = refl }
+items_hand_on form.Binary lim = record { misspelled = λ kind place. refl; past = refl; failed = refl }

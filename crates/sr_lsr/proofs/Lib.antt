@@ -3,5 +3,4 @@ pub mod HintLemmas
 pub mod StepLemmas
 pub mod BeginLemmas
 pub mod ItemLemmas
-pub mod NextLemmas
 pub mod WriteLemmas

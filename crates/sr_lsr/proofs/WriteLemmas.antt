@@ -7,8 +7,8 @@ use Rattle.sr_base.specs.declared.names.Form.TheVariants.{Text, Binary}
 use Rattle.sr_model.specs.Meeting.{Group, Step}
 use Rattle.sr_model.specs.Judging.{stepped, dropped}
 use Rattle.sr_model.specs.Writing.{groups_written, step_numbers, written_item}
-use Rattle.sr_lemma.specs.Written.{written_numbers, written_end}
-use Rattle.sr_lemma.proofs.WriteLemmas.{numbers_append, spaced_is}
+use Rattle.sr_scan.specs.Written.{written_numbers, written_end}
+use Rattle.sr_scan.proofs.WriteLemmas.{numbers_append, spaced_is}
 use Rattle.sr_lsr.specs.Written.{step_start, drop_start}
 
 groups_append : (xs ys : List Group) → groups_written (xs ++ ys) ≡ groups_written xs ++ groups_written ys

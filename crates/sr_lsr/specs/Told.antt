@@ -1,23 +1,26 @@
 -- What the structs of the code hold.
-use Rattle.std.specs.Prelude.{ℕ, ℤ, ◌≡◌, ◌≢◌, ◌≤◌, ◌∷◌, ◌++◌, [], List, length, Bool, Option, Result, Ok, Err, All}
+use Rattle.std.specs.Prelude.{ℕ, ℤ, ◌≡◌, ◌≢◌, ◌<◌, ◌≤◌, ◌∷◌, ◌++◌, [], List, length, Bool, Result, Ok, Err, All}
 use Rattle.sr_base.specs.declared.names.Form.{Form}
 use Rattle.sr_base.specs.declared.names.Form.TheVariants.{Text, Binary}
 use Rattle.sr_base.specs.declared.names.LimitKind.TheVariants as limit
 use Rattle.sr_model.specs.declared.tokens.Word.TheVariants as word
-use Rattle.sr_model.specs.Texts.{Texts}
+use Rattle.sr_model.specs.Tokens.{Tokens}
 use Rattle.sr_model.specs.Words.{signed}
 use Rattle.sr_model.specs.Lsr.{numbers_after, prefix_of, groups_of}
-use Rattle.sr_scan.specs.Binary.{value_word}
+use Rattle.sr_model.specs.BinaryTokens.{value_word}
+use Rattle.sr_base.specs.Contents.{Contents}
+use Rattle.sr_desk.specs.Reader.{Reader}
+use Rattle.sr_desk.specs.Next.{remaining}
 use Rattle.sr_scan.specs.BinaryLeft.{LeadsValue}
 use Rattle.sr_scan.specs.Front.{LeadsNumber}
-use Rattle.sr_wit.specs.declared.fault.InFault.{InFault}
-use Rattle.sr_lemma.specs.Reads.{WhereTold}
+use Rattle.sr_base.specs.declared.names.InputError.{InputError}
+use Rattle.sr_scan.specs.Left.{tokens_left}
 use Rattle.sr_lsr.specs.declared.hints.Hint.{Hint}
 use Rattle.sr_lsr.specs.declared.hints.LeadingHint.{LeadingHint}
 use Rattle.sr_lsr.specs.declared.hints.Hints.{Hints}
 use Rattle.sr_lsr.specs.Written.{IsSmall, IsSmallGroup}
 
-abbrev pub hints_told : Hints → Result (Unit {0}) InFault → Result (List ℕ × List (ℕ × List ℕ)) InFault
+abbrev pub hints_told : Hints → Result (Unit {0}) InputError → Result (List ℕ × List (ℕ × List ℕ)) InputError
 hints_told h (Ok _) = Ok (h.prefix, h.groups)
 hints_told h (Err e) = Err e
 
@@ -55,9 +58,14 @@ pub record LeadsHint (form : Form) (bytes : List ℕ) (bound : ℕ) (front : Lea
   pub within : front.hint.size ≤ bound
 
 -- whatever spells the old hints goes on with the old tokens as what spells the new hints does with those that are left
-abbrev pub GoesOn : ℕ → Option Texts → Option Texts → Hints → Hints → Type 0
-GoesOn bound old new before after = (these : List ℤ) → Spells these before
-    → WhereTold old new (λ all left. (more : List ℤ) × (numbers_after limit.Ids bound these all ≡ numbers_after limit.Ids bound more left) × Spells more after)
+abbrev pub GoesOn : ℕ → Tokens → Tokens → Hints → Hints → Type 0
+GoesOn bound all left before after = (these : List ℤ) → Spells these before
+    → (more : List ℤ) × (numbers_after limit.Ids bound these all ≡ numbers_after limit.Ids bound more left) × Spells more after
+
+-- hints at hand were taken
+abbrev pub TakesHints : Form → ℕ → Reader → Reader → Hints → Hints → Type 0
+TakesHints form bound old new before after = (c : Contents) (more : List ℕ) (lists open_lists : ℕ) → remaining old c ≡ old.ahead ++ more → 0 < open_lists
+    → GoesOn bound (tokens_left form lists open_lists old c) (tokens_left form lists open_lists new c) before after
 
 abbrev pub AreSmall : Hints → Type 0
 AreSmall h = All IsSmall h.prefix × All IsSmallGroup h.groups

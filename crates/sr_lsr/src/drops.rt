@@ -1,20 +1,17 @@
 // The numbers of a deletion.
-ghost use Rattle.std.specs.Prelude.{◌≡◌, ◌≤◌, true, IsTrue, IfOk};
-ghost use Rattle.sr_desk.specs.Outside.{OnlyReads};
-ghost use Rattle.sr_desk.specs.Next.{IsSameReader};
-ghost use Rattle.sr_lemma.specs.Left.{tokens_left};
-ghost use Rattle.sr_lemma.specs.Reads.{HasInCause};
-ghost use Rattle.sr_lsr.specs.Reads.{GivesDrop};
+ghost use Rattle.std.specs.Prelude.{◌≤◌, IfOk};
+ghost use Rattle.sr_desk.specs.Next.{Stands, Reads, ForContents};
+ghost use Rattle.sr_scan.specs.Left.{is_fault};
+ghost use Rattle.sr_lsr.specs.Reads.{ReadsDrop};
 ghost use Rattle.sr_lsr.specs.Frames.{told, IsSmallFrame};
 ghost use Rattle.sr_lsr.specs.Written.{IsSmall};
 
 use crate::lists::{ItemFrame, ItemLists};
 use crate::sizes::size_within;
-use sr_base::Form;
+use sr_base::{Form, InputError};
 use sr_desk::{ByteReader, Desk};
-use sr_lemma::{misplaced, next_token};
 use sr_model::Word;
-use sr_wit::InFault;
+use sr_scan::{misplaced, next_token};
 
 /// The deletion of the numbers up to `0`, which take the place of those in the lists. The number in front of it is `id`.
 pub(crate) fn read_drop<D: Desk>(
@@ -24,31 +21,36 @@ pub(crate) fn read_drop<D: Desk>(
     lists: &mut ItemLists,
     reader: &mut ByteReader,
     desk: &mut D,
-) -> Result<ItemFrame, InFault>
-    requires reads { IsTrue ((D.outside desk.old).slot reader.old.slot).reads }
+) -> Result<ItemFrame, InputError>
+    requires stands { Stands reader.old (D.outside desk.old) }
     requires bound { bound ≤ 2147483647 }
     requires id { IsSmall id }
-    ensures item { GivesDrop bound id (tokens_left form 2 1 reader.old (D.outside desk.old)) (tokens_left form 2 0 reader.new (D.outside desk.new)) (told lists.new result) }
+    ensures item { ForContents reader.new (D.outside desk.new)
+        (λ c. ReadsDrop form bound id reader.old reader.new c (told lists.new result)) }
     ensures small { IfOk result (λ f. IsSmallFrame f lists.new) }
-    ensures same { IsSameReader reader.old reader.new }
-    ensures only { OnlyReads reader.old.slot (D.outside desk.old) (D.outside desk.new) }
-    ensures cause { HasInCause reader.old.slot (D.outside desk.old) (D.outside desk.new) result }
+    ensures reads { Reads reader.old reader.new (D.outside desk.old) (D.outside desk.new) (is_fault result) }
 {
-    lists.ids.cut(0);
+    lists.ids.truncate(0);
     'tokens: loop {
-        let token = next_token(form, false, reader, desk)?;
+        let token = match next_token(form, false, reader, desk) {
+            Ok(token) => token,
+            Err(error) => return Err(error),
+        };
         let Word::Number(x) = token.word else {
-            return Err(InFault::Text {
+            return Err(InputError::Text {
                 kind: misplaced(&token.word),
                 place: token.place,
             });
         };
-        let size = size_within(x, bound, token.place)?;
+        let size = match size_within(x, bound, token.place) {
+            Ok(size) => size,
+            Err(error) => return Err(error),
+        };
         if size == 0 {
             return Ok(ItemFrame::Drop { id });
         }
         if lists.ids.push(size).is_err() {
-            return Err(InFault::NoMemory);
+            return Err(InputError::NoMemory);
         }
     }
 }

@@ -2,20 +2,19 @@
 //
 // Nearly all of them stand whole in the reader's buffer, so a run of them is read there by one loop; what ends the run is
 // read as a token.
-ghost use Rattle.std.specs.Prelude.{◌≡◌, ◌≢◌, ◌≤◌, ◌<◌, ℕ, [], unsigned_abs, true, IsTrue, IfOk, IfSome, OnOk};
-ghost use Rattle.sr_desk.specs.Outside.{Outside, OnlyReads};
-ghost use Rattle.sr_desk.specs.Next.{IsSameReader};
-ghost use Rattle.sr_lemma.specs.Left.{tokens_left};
-ghost use Rattle.sr_lemma.specs.Reads.{HasInCause};
-ghost use Rattle.sr_lsr.specs.Reads.{GivesHints};
-ghost use Rattle.sr_lsr.specs.Told.{hints_told, hint_number, SpellsMore, KeepsSmall, AreSmall, IsHintOf, LeadsHint, GoesOn, IsFresh};
+ghost use Rattle.std.specs.Prelude.{◌≡◌, ◌≢◌, ◌≤◌, [], unsigned_abs, IfOk, IfSome, OnOk};
+ghost use Rattle.sr_base.specs.declared.names.Form.TheVariants.{Text, Binary};
+ghost use Rattle.sr_desk.specs.Next.{Stands, Reads, ForContents};
+ghost use Rattle.sr_scan.specs.Machine.{Skips};
+ghost use Rattle.sr_scan.specs.Left.{is_fault};
+ghost use Rattle.sr_lsr.specs.Reads.{ReadsHints};
+ghost use Rattle.sr_lsr.specs.Told.{hints_told, hint_number, SpellsMore, KeepsSmall, AreSmall, IsHintOf, LeadsHint, TakesHints, IsFresh};
 
-use sr_base::{Form, IdList, LimitKind, NoMemory};
+use sr_base::{Form, IdList, InputError, LimitKind, NoMemory};
 use sr_desk::{ByteReader, Desk};
-use sr_lemma::{misplaced, next_token};
 use sr_model::Word;
-use sr_scan::{short_value, text_number};
-use sr_wit::{GroupList, InFault};
+use sr_scan::{misplaced, next_token, short_value, text_number};
+use sr_wit::GroupList;
 
 /// A hint as its number spells it: a negative one begins a group.
 #[derive(Clone, Copy)]
@@ -33,7 +32,7 @@ struct LeadingHint {
 
 /// The hints of a step: its prefix, and groups.
 #[derive(Drop)]
-pub struct Hints {
+pub(crate) struct Hints {
     pub prefix: IdList,
     pub groups: GroupList,
 }
@@ -43,7 +42,7 @@ impl Hints {
     fn clear(&mut self)
         ensures { IsFresh self.new }
     {
-        self.prefix.cut(0);
+        self.prefix.truncate(0);
         self.groups.clear();
     }
 
@@ -109,9 +108,9 @@ fn take_hints(
     reader: &mut ByteReader,
     hints: &mut Hints,
 ) -> Result<(), NoMemory>
-    ensures spells { OnOk result ((o : Outside) (lists open_lists : ℕ) → 0 < open_lists → GoesOn bound (tokens_left form lists open_lists reader.old o) (tokens_left form lists open_lists reader.new o) hints.old hints.new) }
+    ensures spells { OnOk result (TakesHints form bound reader.old reader.new hints.old hints.new) }
     ensures small { OnOk result (KeepsSmall hints.old hints.new bound) }
-    ensures same { IsSameReader reader.old reader.new }
+    ensures skips { Skips reader.old reader.new }
 {
     let bytes = reader.buffered();
     let mut at = 0;
@@ -126,9 +125,9 @@ fn take_hints(
 /// The loop for text.
 #[inline(never)]
 fn take_text(bound: u32, reader: &mut ByteReader, hints: &mut Hints) -> Result<(), NoMemory>
-    ensures spells { OnOk result ((o : Outside) (lists open_lists : ℕ) → 0 < open_lists → GoesOn bound (tokens_left Form.Text lists open_lists reader.old o) (tokens_left Form.Text lists open_lists reader.new o) hints.old hints.new) }
+    ensures spells { OnOk result (TakesHints Text bound reader.old reader.new hints.old hints.new) }
     ensures small { OnOk result (KeepsSmall hints.old hints.new bound) }
-    ensures same { IsSameReader reader.old reader.new }
+    ensures skips { Skips reader.old reader.new }
 {
     take_hints(Form::Text, bound, reader, hints)
 }
@@ -136,9 +135,9 @@ fn take_text(bound: u32, reader: &mut ByteReader, hints: &mut Hints) -> Result<(
 /// The loop for a binary file.
 #[inline(never)]
 fn take_binary(bound: u32, reader: &mut ByteReader, hints: &mut Hints) -> Result<(), NoMemory>
-    ensures spells { OnOk result ((o : Outside) (lists open_lists : ℕ) → 0 < open_lists → GoesOn bound (tokens_left Form.Binary lists open_lists reader.old o) (tokens_left Form.Binary lists open_lists reader.new o) hints.old hints.new) }
+    ensures spells { OnOk result (TakesHints Binary bound reader.old reader.new hints.old hints.new) }
     ensures small { OnOk result (KeepsSmall hints.old hints.new bound) }
-    ensures same { IsSameReader reader.old reader.new }
+    ensures skips { Skips reader.old reader.new }
 {
     take_hints(Form::Binary, bound, reader, hints)
 }
@@ -151,9 +150,9 @@ fn take_ahead(
     reader: &mut ByteReader,
     hints: &mut Hints,
 ) -> Result<(), NoMemory>
-    ensures spells { OnOk result ((o : Outside) (lists open_lists : ℕ) → 0 < open_lists → GoesOn bound (tokens_left form lists open_lists reader.old o) (tokens_left form lists open_lists reader.new o) hints.old hints.new) }
+    ensures spells { OnOk result (TakesHints form bound reader.old reader.new hints.old hints.new) }
     ensures small { OnOk result (KeepsSmall hints.old hints.new bound) }
-    ensures same { IsSameReader reader.old reader.new }
+    ensures skips { Skips reader.old reader.new }
 {
     match form {
         Form::Text => take_text(bound, reader, hints),
@@ -168,23 +167,25 @@ pub(crate) fn read_hints<D: Desk>(
     hints: &mut Hints,
     reader: &mut ByteReader,
     desk: &mut D,
-) -> Result<(), InFault>
-    requires reads { IsTrue ((D.outside desk.old).slot reader.old.slot).reads }
+) -> Result<(), InputError>
+    requires stands { Stands reader.old (D.outside desk.old) }
     requires bound { bound ≤ 2147483647 }
-    ensures hints { GivesHints bound (tokens_left form 2 1 reader.old (D.outside desk.old)) (tokens_left form 2 0 reader.new (D.outside desk.new)) (hints_told hints.new result) }
+    ensures hints { ForContents reader.new (D.outside desk.new)
+        (λ c. ReadsHints form bound reader.old reader.new c (hints_told hints.new result)) }
     ensures small { IfOk result (λ _. AreSmall hints.new) }
-    ensures same { IsSameReader reader.old reader.new }
-    ensures only { OnlyReads reader.old.slot (D.outside desk.old) (D.outside desk.new) }
-    ensures cause { HasInCause reader.old.slot (D.outside desk.old) (D.outside desk.new) result }
+    ensures reads { Reads reader.old reader.new (D.outside desk.old) (D.outside desk.new) (is_fault result) }
 {
     hints.clear();
     'tokens: loop {
         if take_ahead(form, bound, reader, hints).is_err() {
-            return Err(InFault::NoMemory);
+            return Err(InputError::NoMemory);
         }
-        let token = next_token(form, false, reader, desk)?;
+        let token = match next_token(form, false, reader, desk) {
+            Ok(token) => token,
+            Err(error) => return Err(error),
+        };
         let Word::Number(x) = token.word else {
-            return Err(InFault::Text {
+            return Err(InputError::Text {
                 kind: misplaced(&token.word),
                 place: token.place,
             });
@@ -194,14 +195,14 @@ pub(crate) fn read_hints<D: Desk>(
         }
         let size = x.unsigned_abs();
         if size > u64::from(bound) {
-            return Err(InFault::Limit(LimitKind::Ids));
+            return Err(InputError::Limit(LimitKind::Ids));
         }
         let hint = Hint {
             size: size as u32,
             begins_group: x < 0,
         };
         if hints.add(hint).is_err() {
-            return Err(InFault::NoMemory);
+            return Err(InputError::NoMemory);
         }
     }
 }

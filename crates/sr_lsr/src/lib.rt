@@ -6,13 +6,12 @@ mod drops;
 mod hints;
 mod items;
 mod lists;
+mod reader;
 mod sizes;
 mod steps;
 #[cfg(test)]
 mod tests;
 mod write;
 
-pub use hints::Hints;
-pub use items::{next_item, next_item_in, read_item};
-pub use lists::{ItemFrame, ItemLists, make_item};
+pub use reader::ItemReader;
 pub use write::item_bytes;

@@ -7,8 +7,8 @@ ghost use Rattle.sr_lsr.specs.Written.{IsSmallItem};
 
 use crate::hints::Hints;
 use crate::steps::make_step;
-use sr_base::{IdList, Items, LitList, NoMemory};
-use sr_wit::{GroupList, InFault, LsrItem, StepLists};
+use sr_base::{IdList, InputError, Items, LitList, NoMemory};
+use sr_wit::{GroupList, LsrItem, StepLists};
 use std::alloc::Global;
 use std::mem;
 
@@ -17,7 +17,7 @@ const ROOM: usize = 64;
 
 /// The lists of an item. They are kept from item to item, so that reading takes no memory but what a list needs to grow.
 #[derive(Drop)]
-pub struct ItemLists {
+pub(crate) struct ItemLists {
     /// The literals of a step as they are written, with those of its witness.
     pub lits: LitList,
     /// The hints of a step.
@@ -28,14 +28,14 @@ pub struct ItemLists {
 
 /// An item without its lists: the number in front of it and, for a step, the place of the `0` that ends its literals.
 #[derive(Clone, Copy, Debug, PartialEq, Eq)]
-pub enum ItemFrame {
+pub(crate) enum ItemFrame {
     Step { id: u32, end: u64 },
     Drop { id: u32 },
 }
 
 impl ItemLists {
     /// Empty lists, with room for the literals and the hints of most steps.
-    pub fn new(alloc: Global) -> Result<ItemLists, NoMemory>
+    pub(crate) fn new(alloc: Global) -> Result<ItemLists, NoMemory>
         ensures { IfOk result (λ l. l ≡ no_lists) }
     {
         Ok(ItemLists {
@@ -49,7 +49,7 @@ impl ItemLists {
     }
 
     /// Takes over the lists of an item that was made of some, for reading the next one into their memory.
-    pub fn reuse(&mut self, item: LsrItem)
+    pub(crate) fn reuse(&mut self, item: LsrItem)
         ensures { self.new ≡ holds_parts item self.old }
     {
         match item {
@@ -74,7 +74,11 @@ impl ItemLists {
 ///
 /// `Text` with the place of the frame, for a step: `OddMap` where a literal behind the third pivot is left over, or else
 /// `Twice` where a variable gets two different images.
-pub fn make_item(alloc: Global, frame: ItemFrame, lists: &mut ItemLists) -> Result<LsrItem, InFault>
+pub(crate) fn make_item(
+    alloc: Global,
+    frame: ItemFrame,
+    lists: &mut ItemLists,
+) -> Result<LsrItem, InputError>
     ensures item { MakesItem frame lists.old result }
     ensures lists { lists.new ≡ left_by frame lists.old }
     ensures small { IsSmallFrame frame lists.old → IfOk result (λ x. IsSmallItem (item_of x)) }

@@ -4,9 +4,9 @@ ghost use Rattle.sr_model.specs.Meeting.{HasPivot};
 ghost use Rattle.sr_lsr.specs.Steps.{GivesStep};
 
 use crate::hints::Hints;
-use sr_base::LitList;
-use sr_lemma::{find_clause, find_witness};
-use sr_wit::{InFault, Step};
+use sr_base::{InputError, LitList};
+use sr_lemma::{clause_of_list, find_witness};
+use sr_wit::Step;
 use std::alloc::Global;
 
 /// The step of its number, its literals with those of its witness, and its hints. A fault of the whole
@@ -17,13 +17,13 @@ pub(crate) fn make_step(
     lits: LitList,
     end: u64,
     hints: Hints,
-) -> Result<Step, InFault>
+) -> Result<Step, InputError>
     ensures step { GivesStep id lits end hints.prefix hints.groups result }
     ensures pivot { IfOk result HasPivot }
 {
     let witness = find_witness(alloc, lits.as_slice(), end)?;
-    let Ok(clause) = find_clause(alloc, lits) else {
-        return Err(InFault::NoMemory);
+    let Ok(clause) = clause_of_list(alloc, lits) else {
+        return Err(InputError::NoMemory);
     };
     Ok(Step::new(id, clause, witness, hints.prefix, hints.groups).unwrap())
 }

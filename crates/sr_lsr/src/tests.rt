@@ -1,12 +1,12 @@
 // Items of files in memory, read and written again.
-ghost use Rattle.std.specs.Prelude.{◌≡◌, true, IsTrue};
+ghost use Rattle.sr_desk.specs.Next.{Stands};
 ghost use Rattle.sr_wit.specs.LsrItems.{item_of};
 ghost use Rattle.sr_lsr.specs.Written.{IsSmallItem};
 
-use crate::{ItemLists, item_bytes, next_item, next_item_in};
-use sr_base::{ByteList, Form, Limits, TextKind};
-use sr_desk::{ByteReader, Desk, MemoryDesk};
-use sr_wit::{InFault, LsrItem};
+use crate::{ItemReader, item_bytes};
+use sr_base::{ByteList, Form, InputError, Limits, TextKind};
+use sr_desk::{ByteReader, CallKind, Desk, MemoryDesk};
+use sr_wit::LsrItem;
 use std::alloc::Global;
 use std::test::Fail;
 
@@ -35,35 +35,34 @@ const BINARY: &[u8] = b"d\x04\0\
     d\x12\x14\0\
     a\x1e\0\x1a\x02\x08\x1c\x16\x18\0";
 
-fn add(alloc: Global, form: Form, item: &LsrItem, out: &mut ByteList) -> Result<(), InFault>
+fn add(alloc: Global, form: Form, item: &LsrItem, out: &mut ByteList) -> Result<(), InputError>
     requires { IsSmallItem (item_of item.now) }
 {
     match item_bytes(alloc, form, item) {
         Ok(bytes) if out.extend(bytes.as_slice()).is_ok() => Ok(()),
-        _ => Err(InFault::NoMemory),
+        _ => Err(InputError::NoMemory),
     }
 }
 
 /// The items that a reader gives, written one after another.
 fn rewritten<D: Desk>(
     alloc: Global,
-    forms: (Form, Form),
-    reader: &mut ByteReader,
+    form: Form,
+    reader: &mut ItemReader,
     desk: &mut D,
-) -> Result<ByteList, InFault>
-    requires { IsTrue ((D.outside desk.old).slot reader.old.slot).reads }
+) -> Result<ByteList, InputError>
+    requires { Stands reader.old.reader (D.outside desk.old) }
 {
     let limits = Limits::shipped();
     let mut out = ByteList::new(alloc);
-    let Ok(mut lists) = ItemLists::new(alloc) else {
-        return Err(InFault::NoMemory);
-    };
     'items: loop {
-        let Some(item) = next_item_in(alloc, forms.0, &mut lists, reader, desk, &limits)? else {
-            return Ok(out);
+        let item = match reader.next(desk, &limits) {
+            Ok(Some(item)) => item,
+            Ok(None) => return Ok(out),
+            Err(error) => return Err(error),
         };
-        add(alloc, forms.1, &item, &mut out)?;
-        lists.reuse(item);
+        add(alloc, form, &item, &mut out)?;
+        reader.reuse(item);
     }
 }
 
@@ -73,13 +72,14 @@ fn answer(
     forms: (Form, Form),
     bytes: &[u8],
     piece: usize,
-) -> Result<Result<ByteList, InFault>, Fail> {
+) -> Result<Result<ByteList, InputError>, Fail> {
     let mut desk = MemoryDesk::new(alloc)?;
     desk.put_file("p", bytes)?;
     desk.piece(piece);
     let slot = desk.begin_read("p")?;
-    let mut reader = ByteReader::new(alloc, slot, Limits::shipped().bytes())?;
-    Ok(rewritten(alloc, forms, &mut reader, &mut desk))
+    let bytes = ByteReader::new(alloc, slot, Limits::shipped().bytes())?;
+    let mut reader = ItemReader::new(alloc, forms.0, bytes)?;
+    Ok(rewritten(alloc, forms.1, &mut reader, &mut desk))
 }
 
 #[test]
@@ -96,23 +96,6 @@ fn items_are_written_as_they_are_read(rt: HostRuntime) -> Result<(), Fail> {
                 "{fault:?}"
             )))?;
             assert!(rt; out.as_slice() == wanted);
-        }
-    }
-    Ok(())
-}
-
-/// The first item of a file has lists of its own.
-#[test]
-fn an_item_is_read_alone(rt: HostRuntime) -> Result<(), Fail> {
-    let alloc = rt.alloc();
-    for (form, bytes) in [(Form::Text, TEXT.as_bytes()), (Form::Binary, BINARY)] {
-        let mut desk = MemoryDesk::new(alloc)?;
-        desk.put_file("p", bytes)?;
-        let slot = desk.begin_read("p")?;
-        let mut reader = ByteReader::new(alloc, slot, Limits::shipped().bytes())?;
-        match next_item(alloc, form, &mut reader, &mut desk, &Limits::shipped()) {
-            Ok(Some(LsrItem::Drop { ids, .. })) => assert!(rt; ids.as_slice() == [2].as_slice()),
-            _ => return Err(Fail::from("a deletion is wanted")),
         }
     }
     Ok(())
@@ -143,12 +126,50 @@ fn faults_have_their_places(rt: HostRuntime) -> Result<(), Fail> {
             (Form::Binary, b"d\0\n", TextKind::BadWord, 2),
         ] {
             match answer(alloc, (form, form), bytes, piece)? {
-                Err(InFault::Text { kind: k, place: p }) => {
+                Err(InputError::Text { kind: k, place: p }) => {
                     assert!(rt; k == kind && p == place);
                 }
                 _ => return Err(Fail::new(format_args!("{kind:?} at {place} is wanted"))),
             }
         }
+    }
+    Ok(())
+}
+
+/// How many items of a file are read byte by byte before a read fails, the one with this number.
+fn items_before_failure(alloc: Global, bytes: &[u8], nth: u32) -> Result<u32, Fail> {
+    let limits = Limits::shipped();
+    let mut desk = MemoryDesk::new(alloc)?;
+    desk.put_file("p", bytes)?;
+    desk.piece(1);
+    desk.refuse(CallKind::Read, nth)?;
+    let slot = desk.begin_read("p")?;
+    let bytes = ByteReader::new(alloc, slot, limits.bytes())?;
+    let mut reader = ItemReader::new(alloc, Form::Text, bytes)?;
+    match reader.next(&mut desk, &limits) {
+        Ok(Some(_)) => {}
+        Err(InputError::Source) => return Ok(0),
+        _ => return Err(Fail::from("an item or a failed read is wanted")),
+    }
+    match reader.next(&mut desk, &limits) {
+        Ok(Some(_)) => {}
+        Err(InputError::Source) => return Ok(1),
+        _ => return Err(Fail::from("an item or a failed read is wanted")),
+    }
+    match reader.next(&mut desk, &limits) {
+        Err(InputError::Source) => Ok(2),
+        _ => Err(Fail::from("a failed read is wanted")),
+    }
+}
+
+/// An item that the bytes before it decide is given, and where it isn't decided the failed read is told.
+#[test]
+fn a_failed_read_has_its_place(rt: HostRuntime) -> Result<(), Fail> {
+    let alloc = rt.alloc();
+    let two = b"9 d 2 0\n9 d 3 0\n";
+    for (nth, items) in [(1, 0), (4, 0), (8, 0), (9, 1), (16, 1), (17, 2)] {
+        let given = items_before_failure(alloc, two, nth)?;
+        assert!(rt; given == items);
     }
     Ok(())
 }

@@ -3,11 +3,12 @@ ghost use Rattle.std.specs.Prelude.{◌≡◌, ◌∷◌, ◌++◌, [], pos, map
 ghost use Rattle.sr_model.specs.Judging.{stepped, dropped};
 ghost use Rattle.sr_model.specs.Writing.{groups_written, step_numbers, written_item};
 ghost use Rattle.sr_wit.specs.LsrItems.{item_of};
-ghost use Rattle.sr_lemma.specs.Written.{written_numbers};
+ghost use Rattle.sr_scan.specs.Written.{written_numbers};
 ghost use Rattle.sr_lsr.specs.Written.{IsSmall, IsSmallGroup, IsSmallStep, IsSmallItem, step_start, drop_start};
 
 use sr_base::{ByteList, Form, NoMemory};
-use sr_lemma::{put_clause, put_end, put_number};
+use sr_lemma::put_clause;
+use sr_scan::{put_end, put_number};
 use sr_wit::{GroupList, LsrItem, Step};
 use std::alloc::Global;
 

@@ -12,11 +12,12 @@ use Rattle.sr_model.specs.Substitution.{Witness, untouched, satisfied, left, red
 use Rattle.sr_model.specs.Meeting.{Group}
 use Rattle.sr_model.specs.Judging.{Item, stepped, dropped, judge}
 use Rattle.sr_model.specs.Words.{said_by}
-use Rattle.sr_model.specs.Texts.{Texts, finished}
-use Rattle.sr_model.specs.Tokens.{spelled_from, spelled}
-use Rattle.sr_model.specs.Dimacs.{FormulaRead, spells, misspells, passes, clauses_from, formula_at}
-use Rattle.sr_model.specs.Lsr as lsr
-use Rattle.sr_model.specs.Lsr.{ItemRead, numbers_after, dropped_after, item_at}
+use Rattle.sr_model.specs.Tokens.{Tokens, finished, lost, next}
+use Rattle.sr_model.specs.TextTokens.{spelled_from, spelled}
+use Rattle.sr_base.specs.Contents.{Contents, ended, failed, whole}
+use Rattle.sr_model.specs.Reading.{Read, reads, misspells, passes, fails}
+use Rattle.sr_model.specs.Dimacs.{Formula, clauses_from, formula_at}
+use Rattle.sr_model.specs.Lsr.{MaybeItem, numbers_after, dropped_after, item_at}
 
 -- the four clauses on two variables
 abbrev square : List (List Literal)
@@ -147,20 +148,20 @@ numbers_and_words : (said_by (codes "007") ≡ Ok (word.Number (pos 7)))
 numbers_and_words = (refl, refl, refl, refl, refl, refl, refl, refl)
 
 -- formulas
-abbrev formula_of : List ℕ → FormulaRead
-formula_of text = formula_at shipped (spelled shipped.bytes text)
+abbrev formula_of : List ℕ → Read Formula
+formula_of text = formula_at shipped (spelled shipped.bytes (whole text))
 
-square_text : formula_of (codes "p cnf 2 4\n1 2 0\n-1 2 0\n1 -2 0\n-1 -2 0\n") ≡ spells (record { vars = 2; clauses = square })
+square_text : formula_of (codes "p cnf 2 4\n1 2 0\n-1 2 0\n1 -2 0\n-1 -2 0\n") ≡ reads (record { vars = 2; clauses = square }) (finished 38)
 unfolding spelled_from clauses_from same
 square_text = refl
 
 -- ends of lines of two bytes, a comment, and what follows the formula
-square_text_dressed : formula_of (codes "c four clauses\np cnf 2 4\r\n1 2 0\r\n-1 2 0\r\n1 -2 0\r\n-1 -2 0\r\n%\n0\n") ≡ spells (record { vars = 2; clauses = square })
+square_text_dressed : formula_of (codes "c four clauses\np cnf 2 4\r\n1 2 0\r\n-1 2 0\r\n1 -2 0\r\n-1 -2 0\r\n%\n0\n") ≡ reads (record { vars = 2; clauses = square }) (next (record { place = 60; word = word.Number (pos 0) }) (finished 62))
 unfolding spelled_from clauses_from same
 square_text_dressed = refl
 
 -- a comment inside a clause, a clause over two lines, and a repeated literal
-loose_text : formula_of (codes "p cnf 3 1\n1 3\n c inside 2 0\n1 -2 0") ≡ spells (record { vars = 3; clauses = three (plus 1) (plus 3) (minus 2) ∷ [] })
+loose_text : formula_of (codes "p cnf 3 1\n1 3\n c inside 2 0\n1 -2 0") ≡ reads (record { vars = 3; clauses = three (plus 1) (plus 3) (minus 2) ∷ [] }) (finished 34)
 unfolding spelled_from clauses_from same
 loose_text = refl
 
@@ -191,59 +192,73 @@ abbrev square_bytes : List ℕ
 square_bytes = codes "p cnf 2 4\n1 2 0\n-1 2 0\n1 -2 0\n-1 -2 0\n"
 
 -- an empty clause
-empty_text : formula_of (codes "p cnf 0 1\n0\n") ≡ spells (record { vars = 0; clauses = [] ∷ [] })
+empty_text : formula_of (codes "p cnf 0 1\n0\n") ≡ reads (record { vars = 0; clauses = [] ∷ [] }) (finished 12)
 unfolding spelled_from clauses_from same
 empty_text = refl
 
+-- what a file gives before a read of it fails
+abbrev broken : List ℕ → Contents
+broken bytes = record { bytes = bytes; ending = failed }
+
+-- a failed read comes at its place: a fault before it comes first, a token that it may have cut is none, and after `%` no read is due
+formula_fails : (formula_at shipped (spelled 100 (broken (codes "p cnf 1 1\n1 0"))) ≡ fails)
+    × (formula_at shipped (spelled 100 (broken (codes "p cnf 1 1\n2"))) ≡ fails)
+    × (formula_at shipped (spelled 100 (broken (codes "p cnf 1 1\n2 "))) ≡ misspells AboveHeader 10)
+    × (formula_at shipped (spelled 100 (broken (codes "p cnf 1 0\n% "))) ≡ reads (record { vars = 1; clauses = [] }) lost)
+    × (formula_at shipped (spelled 10 (broken (codes "p cnf 1 0\n"))) ≡ fails)
+    × (formula_at shipped (spelled 9 (broken (codes "p cnf 1 0\n"))) ≡ passes limit.Bytes)
+unfolding spelled_from clauses_from same
+formula_fails = (refl, refl, refl, refl, refl, refl)
+
 -- limits: the bytes of a file, numbers of clauses, and variables
-formula_limits : (formula_at shipped (spelled 37 square_bytes) ≡ passes limit.Bytes)
-    × (formula_at shipped (spelled 38 square_bytes) ≡ spells (record { vars = 2; clauses = square }))
-    × (formula_at (limits_of 2 4 100 100) (spelled 100 square_bytes) ≡ passes limit.Ids)
-    × (formula_at (limits_of 1 5 100 100) (spelled 100 square_bytes) ≡ passes limit.Vars)
+formula_limits : (formula_at shipped (spelled 37 (whole square_bytes)) ≡ passes limit.Bytes)
+    × (formula_at shipped (spelled 38 (whole square_bytes)) ≡ reads (record { vars = 2; clauses = square }) (finished 38))
+    × (formula_at (limits_of 2 4 100 100) (spelled 100 (whole square_bytes)) ≡ passes limit.Ids)
+    × (formula_at (limits_of 1 5 100 100) (spelled 100 (whole square_bytes)) ≡ passes limit.Vars)
 unfolding spelled_from clauses_from same
 formula_limits = (refl, refl, refl, refl)
 
 -- items
-abbrev read_item : List ℕ → ItemRead
-read_item text = item_at shipped (spelled shipped.bytes text)
+abbrev read_item : List ℕ → Read MaybeItem
+read_item text = item_at shipped (spelled shipped.bytes (whole text))
 
-item_faults : (read_item (codes "5 2 d 0\n") ≡ lsr.misspells BadWord 4)
-    × (read_item (codes "5 d -1 0\n") ≡ lsr.misspells BadNumber 4)
-    × (read_item (codes "0 2 0 0\n") ≡ lsr.misspells BadNumber 0)
-    × (read_item (codes "x\n") ≡ lsr.misspells BadWord 0)
-    × (read_item (codes "5 1 1 -2 1 2 1 0 0\n") ≡ lsr.misspells Twice 15)
-    × (read_item (codes "5 1 1 -2 1 2 0 0\n") ≡ lsr.misspells OddMap 13)
-    × (read_item (codes "5 2 0 1") ≡ lsr.misspells Unended 7)
-    × (read_item (codes " \n c nothing") ≡ lsr.none)
+item_faults : (read_item (codes "5 2 d 0\n") ≡ misspells BadWord 4)
+    × (read_item (codes "5 d -1 0\n") ≡ misspells BadNumber 4)
+    × (read_item (codes "0 2 0 0\n") ≡ misspells BadNumber 0)
+    × (read_item (codes "x\n") ≡ misspells BadWord 0)
+    × (read_item (codes "5 1 1 -2 1 2 1 0 0\n") ≡ misspells Twice 15)
+    × (read_item (codes "5 1 1 -2 1 2 0 0\n") ≡ misspells OddMap 13)
+    × (read_item (codes "5 2 0 1") ≡ misspells Unended 7)
+    × (read_item (codes " \n c nothing") ≡ reads None (finished 12))
 unfolding spelled_from numbers_after dropped_after item_at same
 item_faults = (refl, refl, refl, refl, refl, refl, refl, refl)
 
 -- an id of 0 is judged after the next token, and before that one's limit
-id_faults : (read_item (codes "0 x\n") ≡ lsr.misspells BadWord 2)
-    × (read_item (codes "0 1x\n") ≡ lsr.misspells BadNumber 2)
-    × (read_item (codes "0") ≡ lsr.misspells Unended 1)
-    × (read_item (codes "0 99999999 0 0\n") ≡ lsr.misspells BadNumber 0)
-    × (read_item (codes "0 d 0\n") ≡ lsr.item (dropped 0 []) (finished 6))
-    × (read_item (codes "-99999999999 d 0\n") ≡ lsr.misspells BadNumber 0)
-    × (read_item (codes "99999999999 d 0\n") ≡ lsr.passes limit.Ids)
-    × (item_at (limits_of 2 9 100 100) (spelled 100 (codes "5 3 0 0\n")) ≡ lsr.passes limit.Vars)
+id_faults : (read_item (codes "0 x\n") ≡ misspells BadWord 2)
+    × (read_item (codes "0 1x\n") ≡ misspells BadNumber 2)
+    × (read_item (codes "0") ≡ misspells Unended 1)
+    × (read_item (codes "0 99999999 0 0\n") ≡ misspells BadNumber 0)
+    × (read_item (codes "0 d 0\n") ≡ reads (Some (dropped 0 [])) (finished 6))
+    × (read_item (codes "-99999999999 d 0\n") ≡ misspells BadNumber 0)
+    × (read_item (codes "99999999999 d 0\n") ≡ passes limit.Ids)
+    × (item_at (limits_of 2 9 100 100) (spelled 100 (whole (codes "5 3 0 0\n"))) ≡ passes limit.Vars)
 unfolding spelled_from numbers_after dropped_after item_at same
 id_faults = (refl, refl, refl, refl, refl, refl, refl, refl)
 
 -- what is left of a line that tokens stand before is no comment
-behind_tokens : (item_at shipped (spelled_from (Some 32) 100 7 (codes "c 5 0 0\n")) ≡ lsr.misspells BadWord 7) × (item_at shipped (spelled_from (Some 10) 100 7 (codes "c 5 0 0\n")) ≡ lsr.none)
+behind_tokens : (item_at shipped (spelled_from ended (Some 32) 100 7 (codes "c 5 0 0\n")) ≡ misspells BadWord 7) × (item_at shipped (spelled_from ended (Some 10) 100 7 (codes "c 5 0 0\n")) ≡ reads None (finished 15))
 unfolding spelled_from item_at
 behind_tokens = (refl, refl)
 
 -- the items at the front, at most so many
-abbrev front : ℕ → Texts → List Item
+abbrev front : ℕ → Tokens → List Item
 front zero ts = []
-front (suc n) ts = elim (item_at shipped ts) [ lsr.item it rest ↦ it ∷ front n rest | lsr.none ↦ [] | lsr.misspells kind place ↦ [] | lsr.passes kind ↦ [] ]
+front (suc n) ts = elim (item_at shipped ts) [ reads o rest ↦ elim o [ Some it ↦ it ∷ front n rest | None ↦ [] ] | misspells kind place ↦ [] | passes kind ↦ [] | fails ↦ [] ]
 
-square_proof_text : front 3 (spelled shipped.bytes (codes "c proof\n5 2 0 1 2 0\n6 0 5 3 4 0\n")) ≡ five (1 ∷ 2 ∷ []) [] ∷ six ∷ []
+square_proof_text : front 3 (spelled shipped.bytes (whole (codes "c proof\n5 2 0 1 2 0\n6 0 5 3 4 0\n"))) ≡ five (1 ∷ 2 ∷ []) [] ∷ six ∷ []
 unfolding spelled_from numbers_after dropped_after item_at same
 square_proof_text = refl
 
-exchanged_text : front 7 (spelled shipped.bytes (codes "12 d 2 0\n13 -1 -1 2 -1 3 4 4 3 0 -4 3 -5 9 -6 10 -7 11 -8 12 -9 5 -10 6 -11 7 -12 8 0\n13 d 3 5 6 7 8 0\n14 5 0 13 1 4 9 10 0\n14 d 9 10 0\n15 0 13 1 4 14 11 12 0\n")) ≡ exchanged ((5, 9 ∷ []) ∷ [])
+exchanged_text : front 7 (spelled shipped.bytes (whole (codes "12 d 2 0\n13 -1 -1 2 -1 3 4 4 3 0 -4 3 -5 9 -6 10 -7 11 -8 12 -9 5 -10 6 -11 7 -12 8 0\n13 d 3 5 6 7 8 0\n14 5 0 13 1 4 9 10 0\n14 d 9 10 0\n15 0 13 1 4 14 11 12 0\n"))) ≡ exchanged ((5, 9 ∷ []) ∷ [])
 unfolding spelled_from numbers_after dropped_after item_at same
 exchanged_text = refl

@@ -9,14 +9,14 @@ use Rattle.sr_base.specs.declared.names.Form.TheVariants.{Text, Binary}
 use Rattle.sr_base.specs.declared.names.TextKind.TheVariants.{BadNumber, BadWord, Unended, TooWide, OddMap, Twice}
 use Rattle.sr_base.specs.declared.names.LimitKind.TheVariants as limit
 use Rattle.sr_model.specs.Judging.{Item, stepped, dropped}
-use Rattle.sr_model.specs.Texts.{finished}
-use Rattle.sr_model.specs.Tokens.{spelled_from, spelled}
-use Rattle.sr_model.specs.Binary.{binary_from, spelled_binary}
-use Rattle.sr_model.specs.Lsr as lsr
-use Rattle.sr_model.specs.Lsr.{ItemRead, numbers_after, dropped_after, item_at}
-use Rattle.sr_model.specs.LsrBinary.{binary_item_at, item_in, item_texts}
-use Rattle.sr_model.specs.Dsr as dsr
-use Rattle.sr_model.specs.Dsr.{Lemma, Line, lemma_line, deletion_line, LineRead, line_at, binary_line_at, line_in, line_texts}
+use Rattle.sr_model.specs.Tokens.{finished}
+use Rattle.sr_base.specs.Contents.{ended, whole}
+use Rattle.sr_model.specs.Reading.{Read, reads, misspells, passes}
+use Rattle.sr_model.specs.TextTokens.{spelled_from, spelled}
+use Rattle.sr_model.specs.BinaryTokens.{binary_from, spelled_binary}
+use Rattle.sr_model.specs.Lsr.{MaybeItem, numbers_after, dropped_after}
+use Rattle.sr_model.specs.LsrBinary.{binary_item_at, item_in, item_tokens}
+use Rattle.sr_model.specs.Dsr.{Line, lemma_line, deletion_line, MaybeLine, line_at, binary_line_at, line_in, line_tokens}
 use Rattle.sr_model.specs.Dimacs.{Formula}
 use Rattle.sr_model.specs.Writing.{groups_for, number_bytes, written_item, written_items, written_line, written_formula, selected}
 
@@ -27,38 +27,38 @@ lemma c = lemma_line (record { clause = c; witness = None })
 abbrev exchange : Line
 exchange = lemma_line (record { clause = minus 1 ∷ []; witness = Some (record { pivot = minus 1; assigned = plus 2 ∷ []; maps = (plus 3, plus 4) ∷ (plus 4, plus 3) ∷ [] }) })
 
-abbrev read_line : Form → List ℕ → LineRead
-read_line form bytes = line_in form shipped (line_texts form shipped.bytes bytes)
+abbrev read_line : Form → List ℕ → Read MaybeLine
+read_line form bytes = line_in form shipped (line_tokens form shipped.bytes (whole bytes))
 
 -- lines in text
-lines_text : (read_line Text (codes "-1 -1 2 -1 3 4 4 3 0\n5 0\n") ≡ dsr.line exchange (spelled_from (Some 10) (shipped.bytes - 21) 21 (codes "5 0\n")))
-    × (read_line Text (codes "5 0\n") ≡ dsr.line (lemma (plus 5 ∷ [])) (finished 4))
-    × (read_line Text (codes "0\n") ≡ dsr.line (lemma []) (finished 2))
-    × (read_line Text (codes "d 1 1 2 0\n") ≡ dsr.line (deletion_line (plus 1 ∷ plus 2 ∷ [])) (finished 10))
-    × (read_line Text (codes "d 0\n") ≡ dsr.line (deletion_line []) (finished 4))
-    × (read_line Text (codes "c all\n") ≡ dsr.none)
+lines_text : (read_line Text (codes "-1 -1 2 -1 3 4 4 3 0\n5 0\n") ≡ reads (Some exchange) (spelled_from ended (Some 10) (shipped.bytes - 21) 21 (codes "5 0\n")))
+    × (read_line Text (codes "5 0\n") ≡ reads (Some (lemma (plus 5 ∷ []))) (finished 4))
+    × (read_line Text (codes "0\n") ≡ reads (Some (lemma [])) (finished 2))
+    × (read_line Text (codes "d 1 1 2 0\n") ≡ reads (Some (deletion_line (plus 1 ∷ plus 2 ∷ []))) (finished 10))
+    × (read_line Text (codes "d 0\n") ≡ reads (Some (deletion_line [])) (finished 4))
+    × (read_line Text (codes "c all\n") ≡ reads None (finished 6))
 unfolding spelled_from numbers_after line_at same
 lines_text = (refl, refl, refl, refl, refl, refl)
 
 -- what is left behind a line and a comment
-line_faults : (read_line Text (codes "-1 2 -1 -1 0\n") ≡ dsr.line (lemma_line (record { clause = minus 1 ∷ plus 2 ∷ []; witness = Some (record { pivot = minus 1; assigned = []; maps = [] }) })) (finished 13))
-    × (read_line Text (codes "1 1 -1 1 2 0\n") ≡ dsr.misspells OddMap 11)
-    × (read_line Text (codes "1 1 -2 1 2 0\n") ≡ dsr.misspells OddMap 11)
-    × (read_line Text (codes "1 1 -2 1 2 3 0\n") ≡ dsr.misspells Twice 13)
-    × (read_line Text (codes "1 1 -1 0\n") ≡ dsr.misspells Twice 7)
-    × (read_line Text (codes "-1 -1 2") ≡ dsr.misspells Unended 7)
-    × (read_line Text (codes "d 1 x 0\n") ≡ dsr.misspells BadWord 4)
-    × (read_line Text (codes "d d 0\n") ≡ dsr.misspells BadWord 2)
-    × (read_line Text (codes "zzz\n") ≡ dsr.misspells BadWord 0)
-    × (read_line Text (codes "1 1x 0\n") ≡ dsr.misspells BadNumber 2)
-    × (read_line Text (codes "16777216 0\n") ≡ dsr.passes limit.Vars)
-    × (line_in Text shipped (spelled 3 (codes "5 0\n")) ≡ dsr.passes limit.Bytes)
+line_faults : (read_line Text (codes "-1 2 -1 -1 0\n") ≡ reads (Some (lemma_line (record { clause = minus 1 ∷ plus 2 ∷ []; witness = Some (record { pivot = minus 1; assigned = []; maps = [] }) }))) (finished 13))
+    × (read_line Text (codes "1 1 -1 1 2 0\n") ≡ misspells OddMap 11)
+    × (read_line Text (codes "1 1 -2 1 2 0\n") ≡ misspells OddMap 11)
+    × (read_line Text (codes "1 1 -2 1 2 3 0\n") ≡ misspells Twice 13)
+    × (read_line Text (codes "1 1 -1 0\n") ≡ misspells Twice 7)
+    × (read_line Text (codes "-1 -1 2") ≡ misspells Unended 7)
+    × (read_line Text (codes "d 1 x 0\n") ≡ misspells BadWord 4)
+    × (read_line Text (codes "d d 0\n") ≡ misspells BadWord 2)
+    × (read_line Text (codes "zzz\n") ≡ misspells BadWord 0)
+    × (read_line Text (codes "1 1x 0\n") ≡ misspells BadNumber 2)
+    × (read_line Text (codes "16777216 0\n") ≡ passes limit.Vars)
+    × (line_in Text shipped (spelled 3 (whole (codes "5 0\n"))) ≡ passes limit.Bytes)
 unfolding spelled_from numbers_after line_at same
 line_faults = (refl, refl, refl, refl, refl, refl, refl, refl, refl, refl, refl, refl)
 
 -- maps that send a variable to itself, and twice the same map
-maps_text : (read_line Text (codes "1 1 1 3 3 0\n") ≡ dsr.line (lemma_line (record { clause = plus 1 ∷ []; witness = Some (record { pivot = plus 1; assigned = []; maps = (plus 3, plus 3) ∷ [] }) })) (finished 12))
-    × (read_line Text (codes "1 1 1 -3 1 3 -1 0\n") ≡ dsr.line (lemma_line (record { clause = plus 1 ∷ []; witness = Some (record { pivot = plus 1; assigned = []; maps = (plus 3, minus 1) ∷ [] }) })) (finished 18))
+maps_text : (read_line Text (codes "1 1 1 3 3 0\n") ≡ reads (Some (lemma_line (record { clause = plus 1 ∷ []; witness = Some (record { pivot = plus 1; assigned = []; maps = (plus 3, plus 3) ∷ [] }) }))) (finished 12))
+    × (read_line Text (codes "1 1 1 -3 1 3 -1 0\n") ≡ reads (Some (lemma_line (record { clause = plus 1 ∷ []; witness = Some (record { pivot = plus 1; assigned = []; maps = (plus 3, minus 1) ∷ [] }) }))) (finished 18))
 unfolding spelled_from numbers_after line_at same
 maps_text = (refl, refl)
 
@@ -82,53 +82,53 @@ unfolding groups_for
 numbers_written = (refl, refl, refl, refl, refl)
 
 -- lines in binary
-lines_binary : (read_line Binary ((0x61 ∷ 0x03 ∷ 0x03 ∷ 0x04 ∷ 0x03 ∷ 0x06 ∷ 0x08 ∷ 0x08 ∷ 0x06 ∷ 0x00 ∷ []) ++ (0x61 ∷ 0x0a ∷ 0x00 ∷ [])) ≡ dsr.line exchange (binary_from 1 0 (shipped.bytes - 10) 10 (0x61 ∷ 0x0a ∷ 0x00 ∷ [])))
-    × (read_line Binary (0x61 ∷ 0x0a ∷ 0x00 ∷ []) ≡ dsr.line (lemma (plus 5 ∷ [])) (finished 3))
-    × (read_line Binary (0x61 ∷ 0x00 ∷ []) ≡ dsr.line (lemma []) (finished 2))
-    × (read_line Binary (0x64 ∷ 0x02 ∷ 0x04 ∷ 0x00 ∷ []) ≡ dsr.line (deletion_line (plus 1 ∷ plus 2 ∷ [])) (finished 4))
-    × (read_line Binary (0x61 ∷ 0x80 ∷ 0x01 ∷ 0x00 ∷ []) ≡ dsr.line (lemma (plus 64 ∷ [])) (finished 4))
-    × (read_line Binary [] ≡ dsr.none)
+lines_binary : (read_line Binary ((0x61 ∷ 0x03 ∷ 0x03 ∷ 0x04 ∷ 0x03 ∷ 0x06 ∷ 0x08 ∷ 0x08 ∷ 0x06 ∷ 0x00 ∷ []) ++ (0x61 ∷ 0x0a ∷ 0x00 ∷ [])) ≡ reads (Some exchange) (binary_from ended 1 0 (shipped.bytes - 10) 10 (0x61 ∷ 0x0a ∷ 0x00 ∷ [])))
+    × (read_line Binary (0x61 ∷ 0x0a ∷ 0x00 ∷ []) ≡ reads (Some (lemma (plus 5 ∷ []))) (finished 3))
+    × (read_line Binary (0x61 ∷ 0x00 ∷ []) ≡ reads (Some (lemma [])) (finished 2))
+    × (read_line Binary (0x64 ∷ 0x02 ∷ 0x04 ∷ 0x00 ∷ []) ≡ reads (Some (deletion_line (plus 1 ∷ plus 2 ∷ []))) (finished 4))
+    × (read_line Binary (0x61 ∷ 0x80 ∷ 0x01 ∷ 0x00 ∷ []) ≡ reads (Some (lemma (plus 64 ∷ []))) (finished 4))
+    × (read_line Binary [] ≡ reads None (finished 0))
 unfolding binary_from numbers_after binary_line_at same
 lines_binary = (refl, refl, refl, refl, refl, refl)
 
 -- faults in binary: no byte of an item, the value 1, the end within an item and within a number, and a variable above the limit
-binary_faults : (read_line Binary (0x62 ∷ []) ≡ dsr.misspells BadWord 0)
-    × (read_line Binary (0xe1 ∷ []) ≡ dsr.misspells BadWord 0)
-    × (read_line Binary (0x61 ∷ 0x01 ∷ 0x00 ∷ []) ≡ dsr.misspells BadNumber 1)
-    × (read_line Binary (0x61 ∷ 0x80 ∷ []) ≡ dsr.misspells Unended 2)
-    × (read_line Binary (0x61 ∷ []) ≡ dsr.misspells Unended 1)
-    × (read_line Binary (0x61 ∷ 0x80 ∷ 0x80 ∷ 0x80 ∷ 0x10 ∷ 0x00 ∷ []) ≡ dsr.passes limit.Vars)
-    × (line_in Binary shipped (spelled_binary 1 2 (0x61 ∷ 0x0a ∷ 0x00 ∷ [])) ≡ dsr.passes limit.Bytes)
-    × (line_in Binary shipped (spelled_binary 1 3 (0x61 ∷ 0x0a ∷ 0x00 ∷ [])) ≡ dsr.line (lemma (plus 5 ∷ [])) (finished 3))
+binary_faults : (read_line Binary (0x62 ∷ []) ≡ misspells BadWord 0)
+    × (read_line Binary (0xe1 ∷ []) ≡ misspells BadWord 0)
+    × (read_line Binary (0x61 ∷ 0x01 ∷ 0x00 ∷ []) ≡ misspells BadNumber 1)
+    × (read_line Binary (0x61 ∷ 0x80 ∷ []) ≡ misspells Unended 2)
+    × (read_line Binary (0x61 ∷ []) ≡ misspells Unended 1)
+    × (read_line Binary (0x61 ∷ 0x80 ∷ 0x80 ∷ 0x80 ∷ 0x10 ∷ 0x00 ∷ []) ≡ passes limit.Vars)
+    × (line_in Binary shipped (spelled_binary 1 2 (whole (0x61 ∷ 0x0a ∷ 0x00 ∷ []))) ≡ passes limit.Bytes)
+    × (line_in Binary shipped (spelled_binary 1 3 (whole (0x61 ∷ 0x0a ∷ 0x00 ∷ []))) ≡ reads (Some (lemma (plus 5 ∷ []))) (finished 3))
 unfolding binary_from numbers_after binary_line_at same
 binary_faults = (refl, refl, refl, refl, refl, refl, refl, refl)
 
 -- items in binary
-abbrev read_item : List ℕ → ItemRead
-read_item bytes = item_in Binary shipped (item_texts Binary shipped.bytes bytes)
+abbrev read_item : List ℕ → Read MaybeItem
+read_item bytes = item_in Binary shipped (item_tokens Binary shipped.bytes (whole bytes))
 
 abbrev plain_step : ℕ → List Literal → List ℕ → Item
 plain_step id c prefix = stepped (record { id = id; clause = c; witness = None; prefix = prefix; groups = [] })
 
-items_binary : (read_item ((0x61 ∷ 0x0a ∷ 0x04 ∷ 0x00 ∷ 0x02 ∷ 0x04 ∷ 0x00 ∷ []) ++ (0x61 ∷ 0x0c ∷ 0x00 ∷ 0x0a ∷ 0x06 ∷ 0x08 ∷ 0x00 ∷ [])) ≡ lsr.item (plain_step 5 (plus 2 ∷ []) (1 ∷ 2 ∷ [])) (binary_from 2 0 (shipped.bytes - 7) 7 (0x61 ∷ 0x0c ∷ 0x00 ∷ 0x0a ∷ 0x06 ∷ 0x08 ∷ 0x00 ∷ [])))
-    × (read_item (0x61 ∷ 0x0c ∷ 0x00 ∷ 0x0a ∷ 0x06 ∷ 0x08 ∷ 0x00 ∷ []) ≡ lsr.item (plain_step 6 [] (5 ∷ 3 ∷ 4 ∷ [])) (finished 7))
-    × (read_item (0x61 ∷ 0x0a ∷ 0x84 ∷ 0x00 ∷ 0x00 ∷ 0x02 ∷ 0x04 ∷ 0x00 ∷ []) ≡ lsr.item (plain_step 5 (plus 2 ∷ []) (1 ∷ 2 ∷ [])) (finished 8))
-    × (read_item (0x64 ∷ 0x04 ∷ 0x00 ∷ []) ≡ lsr.item (dropped 0 (2 ∷ [])) (finished 3))
-    × (read_item [] ≡ lsr.none)
+items_binary : (read_item ((0x61 ∷ 0x0a ∷ 0x04 ∷ 0x00 ∷ 0x02 ∷ 0x04 ∷ 0x00 ∷ []) ++ (0x61 ∷ 0x0c ∷ 0x00 ∷ 0x0a ∷ 0x06 ∷ 0x08 ∷ 0x00 ∷ [])) ≡ reads (Some (plain_step 5 (plus 2 ∷ []) (1 ∷ 2 ∷ []))) (binary_from ended 2 0 (shipped.bytes - 7) 7 (0x61 ∷ 0x0c ∷ 0x00 ∷ 0x0a ∷ 0x06 ∷ 0x08 ∷ 0x00 ∷ [])))
+    × (read_item (0x61 ∷ 0x0c ∷ 0x00 ∷ 0x0a ∷ 0x06 ∷ 0x08 ∷ 0x00 ∷ []) ≡ reads (Some (plain_step 6 [] (5 ∷ 3 ∷ 4 ∷ []))) (finished 7))
+    × (read_item (0x61 ∷ 0x0a ∷ 0x84 ∷ 0x00 ∷ 0x00 ∷ 0x02 ∷ 0x04 ∷ 0x00 ∷ []) ≡ reads (Some (plain_step 5 (plus 2 ∷ []) (1 ∷ 2 ∷ []))) (finished 8))
+    × (read_item (0x64 ∷ 0x04 ∷ 0x00 ∷ []) ≡ reads (Some (dropped 0 (2 ∷ []))) (finished 3))
+    × (read_item [] ≡ reads None (finished 0))
 unfolding binary_from numbers_after dropped_after binary_item_at same
 items_binary = (refl, refl, refl, refl, refl)
 
 -- numbers of steps that are none, a negative number in a deletion, and numbers that are too wide or above the limit
-item_faults : (read_item (0x61 ∷ 0x00 ∷ []) ≡ lsr.misspells BadNumber 1)
-    × (read_item (0x61 ∷ 0x0b ∷ []) ≡ lsr.misspells BadNumber 1)
-    × (read_item (0x64 ∷ 0x02 ∷ 0x05 ∷ []) ≡ lsr.misspells BadNumber 2)
-    × (read_item (0x61 ∷ replicate 10 0x80) ≡ lsr.misspells TooWide 1)
-    × (read_item (0x61 ∷ (replicate 9 0x80 ++ 0x01 ∷ [])) ≡ lsr.passes limit.Ids)
-    × (read_item (0x61 ∷ (replicate 9 0x80 ++ 0x02 ∷ [])) ≡ lsr.misspells TooWide 1)
-    × (read_item (0x61 ∷ replicate 9 0x80) ≡ lsr.misspells Unended 10)
-    × (read_item (take 3 (0x61 ∷ 0x0a ∷ 0x04 ∷ 0x00 ∷ 0x02 ∷ 0x04 ∷ 0x00 ∷ [])) ≡ lsr.misspells Unended 3)
-    × (read_item (0x61 ∷ 0x0a ∷ 0x03 ∷ 0x03 ∷ 0x03 ∷ 0x06 ∷ 0x00 ∷ 0x00 ∷ []) ≡ lsr.misspells OddMap 6)
-    × (item_in Binary shipped (spelled_binary 2 10 (0x61 ∷ replicate 10 0x80)) ≡ lsr.passes limit.Bytes)
+item_faults : (read_item (0x61 ∷ 0x00 ∷ []) ≡ misspells BadNumber 1)
+    × (read_item (0x61 ∷ 0x0b ∷ []) ≡ misspells BadNumber 1)
+    × (read_item (0x64 ∷ 0x02 ∷ 0x05 ∷ []) ≡ misspells BadNumber 2)
+    × (read_item (0x61 ∷ replicate 10 0x80) ≡ misspells TooWide 1)
+    × (read_item (0x61 ∷ (replicate 9 0x80 ++ 0x01 ∷ [])) ≡ passes limit.Ids)
+    × (read_item (0x61 ∷ (replicate 9 0x80 ++ 0x02 ∷ [])) ≡ misspells TooWide 1)
+    × (read_item (0x61 ∷ replicate 9 0x80) ≡ misspells Unended 10)
+    × (read_item (take 3 (0x61 ∷ 0x0a ∷ 0x04 ∷ 0x00 ∷ 0x02 ∷ 0x04 ∷ 0x00 ∷ [])) ≡ misspells Unended 3)
+    × (read_item (0x61 ∷ 0x0a ∷ 0x03 ∷ 0x03 ∷ 0x03 ∷ 0x06 ∷ 0x00 ∷ 0x00 ∷ []) ≡ misspells OddMap 6)
+    × (item_in Binary shipped (spelled_binary 2 10 (whole (0x61 ∷ replicate 10 0x80))) ≡ passes limit.Bytes)
 unfolding binary_from numbers_after dropped_after binary_item_at same
 item_faults = (refl, refl, refl, refl, refl, refl, refl, refl, refl, refl)
 

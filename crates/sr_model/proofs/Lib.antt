@@ -18,5 +18,6 @@ pub mod PartsWritten
 pub mod ItemsAgain
 pub mod LinesAgain
 pub mod FormulasAgain
+pub mod FormulasSpelled
 pub mod FilesAgain
 pub mod ReadPivots

@@ -11,8 +11,8 @@ use Rattle.std.proofs.lemmas.List.{take_all}
 use Rattle.std.proofs.Math.Nat.{pow-suc}
 use Rattle.sr_model.specs.declared.tokens.Word.TheVariants as word
 use Rattle.sr_model.specs.Words.{is_white, is_digit, value_after, signed, number_word, number_by, said_by}
-use Rattle.sr_model.specs.Tokens.{is_comment}
-use Rattle.sr_model.specs.Binary.{is_last, low_bits, value_of, value_word, number_said}
+use Rattle.sr_model.specs.TextTokens.{is_comment}
+use Rattle.sr_model.specs.BinaryTokens.{is_last, low_bits, value_of, value_word, number_said}
 use Rattle.sr_model.specs.Writing.{value_for, groups_for, number_bytes}
 use Rattle.sr_model.proofs.Soundness.{by_test}
 use Rattle.sr_model.proofs.TextTokens.{is_dark, IsToken}

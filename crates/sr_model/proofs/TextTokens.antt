@@ -5,8 +5,9 @@ use Rattle.std.specs.List.{list_all}
 use Rattle.std.proofs.lemmas.Bool.Decides.{nat_tests}
 use Rattle.std.proofs.lemmas.List.{append-nil}
 use Rattle.sr_model.specs.Words.{is_white, said_by}
-use Rattle.sr_model.specs.Texts.{finished, over, judged}
-use Rattle.sr_model.specs.Tokens.{first_line, next_lines, run, runs_in, is_comment, tokens_of_lines, tokens_of_first, tokens_from, begins_line, said, kept_below, spelled_from}
+use Rattle.sr_base.specs.Contents.{Ending, ended, failed}
+use Rattle.sr_model.specs.Tokens.{over, judged}
+use Rattle.sr_model.specs.TextTokens.{first_line, next_lines, run, runs_in, is_comment, tokens_of_lines, tokens_of_first, tokens_from, begins_line, said, kept_below, all_said, spelled_from, Run}
 use Rattle.sr_model.proofs.Soundness.{by_test}
 
 abbrev pub is_dark : ℕ → Bool
@@ -115,12 +116,18 @@ tokens_first begins place b bs s more t w = by_test (s == 10) (λ e. let is : s 
         ∙ ap (λ x. (record { place = place; bytes = b ∷ bs } ∷ x) ++ tokens_of_lines (place + (suc (length bs) + 1) + length (first_line more) + 1) (next_lines more)) (tail ∙ ap (λ (k : ℕ). runs_in true k (first_line more)) p)
         ∙ rw e refl
 
--- a token that a white byte ends, and the text behind that
-pub token_first : (t : List ℕ) (before : Option ℕ) → IsToken (begins_line before) t → (room place s : ℕ) (more : List ℕ) → is_white s ≡ true → length t + 1 ≤ room
-    → spelled_from before room place (t ++ s ∷ more) ≡ judged place (said_by t) (spelled_from (Some s) (room - (length t + 1)) (place + (length t + 1)) more)
+-- a token that a byte follows is said first, however the bytes end
+first_said : (ending : Ending) (place len : ℕ) (bytes : List ℕ) (more : ℕ) (rs : List Run) → length bytes ≡ len
+    → all_said ending (place + (len + 1) + more) (record { place = place; bytes = bytes } ∷ rs) ≡ judged place (said_by bytes) (all_said ending (place + (len + 1) + more) rs)
+first_said ended place len bytes more rs e = refl
+first_said failed place len bytes more rs e = let below : nat_lt (place + length bytes) (place + (len + 1) + more) ≡ true = grind (arith, nat_tests) in rw below refl
+
+-- a token that a white byte ends, and the text after that
+pub token_first : (t : List ℕ) (ending : Ending) (before : Option ℕ) → IsToken (begins_line before) t → (room place s : ℕ) (more : List ℕ) → is_white s ≡ true → length t + 1 ≤ room
+    → spelled_from ending before room place (t ++ s ∷ more) ≡ judged place (said_by t) (spelled_from ending (Some s) (room - (length t + 1)) (place + (length t + 1)) more)
 unfolding spelled_from
-token_first [] before t room place s more w le = absurd (omega (arith, t.some))
-token_first (b ∷ bs) before t room place s more w le = by_test (nat_le (length more) (room - (suc (length bs) + 1))) whole cut
+token_first [] ending before t room place s more w le = absurd (omega (arith, t.some))
+token_first (b ∷ bs) ending before t room place s more w le = by_test (nat_le (length more) (room - (suc (length bs) + 1))) whole cut
   where
     tokens : tokens_from (begins_line before) place ((b ∷ bs) ++ s ∷ more) ≡ record { place = place; bytes = b ∷ bs } ∷ tokens_from (s == 10) (place + (suc (length bs) + 1)) more
     tokens = tokens_first (begins_line before) place b bs s more t w
@@ -129,25 +136,26 @@ token_first (b ∷ bs) before t room place s more w le = by_test (nat_le (length
     size = omega (arith, length-append (b ∷ bs) (s ∷ more))
 
     whole : nat_le (length more) (room - (suc (length bs) + 1)) ≡ true
-        → spelled_from before room place ((b ∷ bs) ++ s ∷ more) ≡ judged place (said_by (b ∷ bs)) (spelled_from (Some s) (room - (suc (length bs) + 1)) (place + (suc (length bs) + 1)) more)
+        → spelled_from ending before room place ((b ∷ bs) ++ s ∷ more) ≡ judged place (said_by (b ∷ bs)) (spelled_from ending (Some s) (room - (suc (length bs) + 1)) (place + (suc (length bs) + 1)) more)
     whole e =
         let f : nat_le (length ((b ∷ bs) ++ s ∷ more)) room ≡ true = grind (arith, nat_tests, size) in
         let p : place + length ((b ∷ bs) ++ s ∷ more) ≡ place + (suc (length bs) + 1) + length more = omega (arith, size) in
-        let here : spelled_from before room place ((b ∷ bs) ++ s ∷ more) ≡ said (tokens_from (begins_line before) place ((b ∷ bs) ++ s ∷ more)) (finished (place + length ((b ∷ bs) ++ s ∷ more))) = rw f refl in
-        let there : spelled_from (Some s) (room - (suc (length bs) + 1)) (place + (suc (length bs) + 1)) more ≡ said (tokens_from (s == 10) (place + (suc (length bs) + 1)) more) (finished (place + (suc (length bs) + 1) + length more)) = rw e refl in
+        let here : spelled_from ending before room place ((b ∷ bs) ++ s ∷ more) ≡ all_said ending (place + length ((b ∷ bs) ++ s ∷ more)) (tokens_from (begins_line before) place ((b ∷ bs) ++ s ∷ more)) = rw f refl in
+        let there : spelled_from ending (Some s) (room - (suc (length bs) + 1)) (place + (suc (length bs) + 1)) more ≡ all_said ending (place + (suc (length bs) + 1) + length more) (tokens_from (s == 10) (place + (suc (length bs) + 1)) more) = rw e refl in
         here
-        ∙ ap (λ (k : ℕ). said (tokens_from (begins_line before) place ((b ∷ bs) ++ s ∷ more)) (finished k)) p
-        ∙ ap (λ ts. said ts (finished (place + (suc (length bs) + 1) + length more))) tokens
+        ∙ ap (λ (k : ℕ). all_said ending k (tokens_from (begins_line before) place ((b ∷ bs) ++ s ∷ more))) p
+        ∙ ap (all_said ending (place + (suc (length bs) + 1) + length more)) tokens
+        ∙ first_said ending place (suc (length bs)) (b ∷ bs) (length more) (tokens_from (s == 10) (place + (suc (length bs) + 1)) more) refl
         ∙ ap (judged place (said_by (b ∷ bs))) (sym there)
 
     cut : nat_le (length more) (room - (suc (length bs) + 1)) ≡ false
-        → spelled_from before room place ((b ∷ bs) ++ s ∷ more) ≡ judged place (said_by (b ∷ bs)) (spelled_from (Some s) (room - (suc (length bs) + 1)) (place + (suc (length bs) + 1)) more)
+        → spelled_from ending before room place ((b ∷ bs) ++ s ∷ more) ≡ judged place (said_by (b ∷ bs)) (spelled_from ending (Some s) (room - (suc (length bs) + 1)) (place + (suc (length bs) + 1)) more)
     cut e =
         let f : nat_le (length ((b ∷ bs) ++ s ∷ more)) room ≡ false = grind (arith, nat_tests, size) in
         let below : nat_lt (place + suc (length bs)) (place + room) ≡ true = grind (arith, nat_tests) in
         let limit : place + (suc (length bs) + 1) + (room - (suc (length bs) + 1)) ≡ place + room = omega arith in
-        let here : spelled_from before room place ((b ∷ bs) ++ s ∷ more) ≡ said (kept_below (place + room) (tokens_from (begins_line before) place ((b ∷ bs) ++ s ∷ more))) over = rw f refl in
-        let there : spelled_from (Some s) (room - (suc (length bs) + 1)) (place + (suc (length bs) + 1)) more
+        let here : spelled_from ending before room place ((b ∷ bs) ++ s ∷ more) ≡ said (kept_below (place + room) (tokens_from (begins_line before) place ((b ∷ bs) ++ s ∷ more))) over = rw f refl in
+        let there : spelled_from ending (Some s) (room - (suc (length bs) + 1)) (place + (suc (length bs) + 1)) more
         ≡ said (kept_below (place + (suc (length bs) + 1) + (room - (suc (length bs) + 1))) (tokens_from (s == 10) (place + (suc (length bs) + 1)) more)) over = rw e refl in
         let kept : kept_below (place + room) (record { place = place; bytes = b ∷ bs } ∷ tokens_from (s == 10) (place + (suc (length bs) + 1)) more)
         ≡ record { place = place; bytes = b ∷ bs } ∷ kept_below (place + room) (tokens_from (s == 10) (place + (suc (length bs) + 1)) more) = rw below refl in

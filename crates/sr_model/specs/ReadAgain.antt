@@ -10,15 +10,16 @@ use Rattle.sr_model.specs.Substitution.{Witness, IsPivot}
 use Rattle.sr_model.specs.Meeting.{Group, Step}
 use Rattle.sr_model.specs.Judging.{Item, stepped, dropped}
 use Rattle.sr_model.specs.Witnesses.{witness_by, parts_of, twice_of}
-use Rattle.sr_model.specs.Texts.{Texts}
+use Rattle.sr_base.specs.Contents.{Ending, whole}
+use Rattle.sr_model.specs.Tokens.{Tokens, finished, ending_at}
 use Rattle.sr_model.specs.Words.{said_by}
-use Rattle.sr_model.specs.Tokens.{spelled_from, spelled}
-use Rattle.sr_model.specs.Binary.{number_said, binary_from}
-use Rattle.sr_model.specs.Dimacs.{Formula, spells, formula_at}
-use Rattle.sr_model.specs.Lsr.{item, none, item_at}
-use Rattle.sr_model.specs.LsrBinary.{binary_item_at, item_in, item_texts, SpellItemsIn}
-use Rattle.sr_model.specs.Dsr as dsr
-use Rattle.sr_model.specs.Dsr.{Lemma, Line, lemma_line, deletion_line, line_at, binary_line_at, line_in, line_texts, SpellLines}
+use Rattle.sr_model.specs.TextTokens.{spelled_from, spelled}
+use Rattle.sr_model.specs.BinaryTokens.{number_said, binary_from}
+use Rattle.sr_model.specs.Reading.{reads}
+use Rattle.sr_model.specs.Dimacs.{Formula, formula_at}
+use Rattle.sr_model.specs.Lsr.{item_at}
+use Rattle.sr_model.specs.LsrBinary.{binary_item_at, item_tokens, SpellItemsIn}
+use Rattle.sr_model.specs.Dsr.{Lemma, Line, lemma_line, deletion_line, line_at, binary_line_at, line_tokens, SpellLines}
 use Rattle.sr_model.specs.Writing.{number_bytes, item_text, item_binary, written_items, line_text, line_binary, written_lines, written_formula, selected}
 
 -- limits that a run may have
@@ -89,18 +90,18 @@ NumbersAreShortest = (x : ℤ) (bytes : List ℕ) → All (λ b. b < 256) bytes 
 -- a formula that the limit of bytes holds
 abbrev pub FormulasReadAgain : Type 0
 FormulasReadAgain = (lim : LimitValues) (f : Formula) → AreLimits lim → IsFormula lim f → length (written_formula f) ≤ lim.bytes
-    → formula_at lim (spelled lim.bytes (written_formula f)) ≡ spells f
+    → formula_at lim (spelled lim.bytes (whole (written_formula f))) ≡ reads f (finished (length (written_formula f)))
 
 -- and so is one that has some of its clauses
 abbrev pub SelectionsReadAgain : Type 0
 SelectionsReadAgain = (lim : LimitValues) (f : Formula) (ids : List ℕ) → AreLimits lim → IsFormula lim f → All (IsNumber (length f.clauses)) ids → length ids < lim.ids
-    → length (written_formula (selected f ids)) ≤ lim.bytes → formula_at lim (spelled lim.bytes (written_formula (selected f ids))) ≡ spells (selected f ids)
+    → length (written_formula (selected f ids)) ≤ lim.bytes → formula_at lim (spelled lim.bytes (whole (written_formula (selected f ids)))) ≡ reads (selected f ids) (finished (length (written_formula (selected f ids))))
 
 -- an item for which there is room, and behind it what follows, at a line's begin
 abbrev pub ItemsReadAgain : Type 0
-ItemsReadAgain = (lim : LimitValues) (it : Item) (before : Option ℕ) (room place : ℕ) (more : List ℕ) → AreLimits lim → IsItem lim it → length (item_text it) ≤ room
-    → item_at lim (spelled_from before room place (item_text it ++ more))
-    ≡ item it (spelled_from (Some 10) (room - length (item_text it)) (place + length (item_text it)) more)
+ItemsReadAgain = (lim : LimitValues) (it : Item) (ending : Ending) (before : Option ℕ) (room place : ℕ) (more : List ℕ) → AreLimits lim → IsItem lim it → length (item_text it) ≤ room
+    → item_at lim (spelled_from ending before room place (item_text it ++ more))
+    ≡ reads (Some it) (spelled_from ending (Some 10) (room - length (item_text it)) (place + length (item_text it)) more)
 
 -- in binary a deletion comes back with the number 0
 abbrev pub unnumbered : Item → Item
@@ -108,19 +109,19 @@ unnumbered (stepped s) = stepped s
 unnumbered (dropped id ids) = dropped 0 ids
 
 abbrev pub BinaryItemsReadAgain : Type 0
-BinaryItemsReadAgain = (lim : LimitValues) (it : Item) (room place : ℕ) (more : List ℕ) → AreLimits lim → IsItem lim it → length (item_binary it) ≤ room
-    → binary_item_at lim (binary_from 2 0 room place (item_binary it ++ more))
-    ≡ item (unnumbered it) (binary_from 2 0 (room - length (item_binary it)) (place + length (item_binary it)) more)
+BinaryItemsReadAgain = (lim : LimitValues) (it : Item) (ending : Ending) (room place : ℕ) (more : List ℕ) → AreLimits lim → IsItem lim it → length (item_binary it) ≤ room
+    → binary_item_at lim (binary_from ending 2 0 room place (item_binary it ++ more))
+    ≡ reads (Some (unnumbered it)) (binary_from ending 2 0 (room - length (item_binary it)) (place + length (item_binary it)) more)
 
 abbrev pub LinesReadAgain : Type 0
-LinesReadAgain = (lim : LimitValues) (l : Line) (before : Option ℕ) (room place : ℕ) (more : List ℕ) → AreLimits lim → IsLine lim.vars l → length (line_text l) ≤ room
-    → line_at lim (spelled_from before room place (line_text l ++ more))
-    ≡ dsr.line l (spelled_from (Some 10) (room - length (line_text l)) (place + length (line_text l)) more)
+LinesReadAgain = (lim : LimitValues) (l : Line) (ending : Ending) (before : Option ℕ) (room place : ℕ) (more : List ℕ) → AreLimits lim → IsLine lim.vars l → length (line_text l) ≤ room
+    → line_at lim (spelled_from ending before room place (line_text l ++ more))
+    ≡ reads (Some l) (spelled_from ending (Some 10) (room - length (line_text l)) (place + length (line_text l)) more)
 
 abbrev pub BinaryLinesReadAgain : Type 0
-BinaryLinesReadAgain = (lim : LimitValues) (l : Line) (room place : ℕ) (more : List ℕ) → AreLimits lim → IsLine lim.vars l → length (line_binary l) ≤ room
-    → binary_line_at lim (binary_from 1 0 room place (line_binary l ++ more))
-    ≡ dsr.line l (binary_from 1 0 (room - length (line_binary l)) (place + length (line_binary l)) more)
+BinaryLinesReadAgain = (lim : LimitValues) (l : Line) (ending : Ending) (room place : ℕ) (more : List ℕ) → AreLimits lim → IsLine lim.vars l → length (line_binary l) ≤ room
+    → binary_line_at lim (binary_from ending 1 0 room place (line_binary l ++ more))
+    ≡ reads (Some l) (binary_from ending 1 0 (room - length (line_binary l)) (place + length (line_binary l)) more)
 
 -- so a file that begins with written items is read as these, and where nothing follows there are no others
 abbrev pub read_as : Form → Item → Item
@@ -128,9 +129,9 @@ read_as Text it = it
 read_as Binary it = unnumbered it
 
 abbrev pub ItemFilesReadAgain : Type 0
-ItemFilesReadAgain = (form : Form) (lim : LimitValues) (items : List Item) (more : List ℕ) → AreLimits lim → All (IsItem lim) items → length (written_items form items) ≤ lim.bytes
-    → (rest : Texts) × SpellItemsIn form lim (item_texts form lim.bytes (written_items form items ++ more)) (map (read_as form) items) rest × (more ≡ [] → item_in form lim rest ≡ none)
+ItemFilesReadAgain = (form : Form) (lim : LimitValues) (items : List Item) (ending : Ending) (more : List ℕ) → AreLimits lim → All (IsItem lim) items → length (written_items form items) ≤ lim.bytes
+    → (rest : Tokens) × SpellItemsIn form lim (item_tokens form lim.bytes (record { bytes = written_items form items ++ more; ending = ending })) (map (read_as form) items) rest × (more ≡ [] → rest ≡ ending_at ending (length (written_items form items)))
 
 abbrev pub LineFilesReadAgain : Type 0
-LineFilesReadAgain = (form : Form) (lim : LimitValues) (lines : List Line) (more : List ℕ) → AreLimits lim → All (IsLine lim.vars) lines → length (written_lines form lines) ≤ lim.bytes
-    → (rest : Texts) × SpellLines form lim (line_texts form lim.bytes (written_lines form lines ++ more)) lines rest × (more ≡ [] → line_in form lim rest ≡ dsr.none)
+LineFilesReadAgain = (form : Form) (lim : LimitValues) (lines : List Line) (ending : Ending) (more : List ℕ) → AreLimits lim → All (IsLine lim.vars) lines → length (written_lines form lines) ≤ lim.bytes
+    → (rest : Tokens) × SpellLines form lim (line_tokens form lim.bytes (record { bytes = written_lines form lines ++ more; ending = ending })) lines rest × (more ≡ [] → rest ≡ ending_at ending (length (written_lines form lines)))

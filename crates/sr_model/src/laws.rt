@@ -1,5 +1,6 @@
 // The laws of the definitions, each as the contract of a function with no body.
 ghost use Rattle.sr_model.specs.Laws.{RefutationIsSound, ClosedChainRefutes, UnclosedChainKeeps, RupHolds, RedundancyKeeps, RedundancyIsSound, MetIsSound, EmptyIsSound, VerifiedIsUnsat, StrictIsVerified, TakingJudges, TakingKeepsLive, RejectionKeepsLive, VerificationKeepsLive};
+ghost use Rattle.sr_model.specs.Formulas.{FormulasAreSpelled};
 ghost use Rattle.sr_model.specs.LsrBinary.{ReadItemsHavePivots};
 ghost use Rattle.sr_model.specs.Dsr.{ReadLinesHavePivots};
 ghost use Rattle.sr_model.specs.ReadAgain.{NumbersReadAgain, NumbersAreShortest, FormulasReadAgain, SelectionsReadAgain, ItemsReadAgain, BinaryItemsReadAgain, LinesReadAgain, BinaryLinesReadAgain, ItemFilesReadAgain, LineFilesReadAgain};
@@ -97,6 +98,12 @@ pub fn numbers_read_again()
 /// In binary no other bytes that say the number are fewer.
 pub fn numbers_are_shortest()
     ensures { NumbersAreShortest }
+{}
+
+/// The definition that reads a formula token by token gives one exactly where the tokens are those of a header and its
+/// clauses.
+pub fn formulas_are_spelled()
+    ensures { FormulasAreSpelled }
 {}
 
 /// A formula within the limits is read again from its text.

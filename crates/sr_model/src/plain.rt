@@ -4,7 +4,7 @@ ghost use Rattle.sr_model.specs.Refutation.{Refutes, IsClosed, IsClosedFor, has_
 ghost use Rattle.sr_model.specs.Substitution.{has_pair};
 ghost use Rattle.sr_model.specs.Propagation.{is_forced, IsNewIn, IsNewOf};
 
-use sr_base::{Clause, Items, Lit, NoMemory, holds};
+use sr_base::{Clause, Items, Lit, NoMemory, has};
 use std::alloc::Global;
 
 /// Whether the clauses refute the literals: one of the clauses is empty, or unit propagation from the
@@ -43,14 +43,14 @@ pub fn has_no_literal(clause: &Clause) -> bool
 fn holds_pair(set: &[Lit]) -> bool
     ensures { result ≡ has_pair set.now }
 {
-    set.iter().any(|l| holds(set, l.neg()))
+    set.iter().any(|l| has(set, l.neg()))
 }
 
 /// Whether the complements of the clause's other literals are all in the set.
 fn forces(set: &[Lit], lits: &[Lit], l: Lit) -> bool
     ensures { result ≡ is_forced set.now lits.now l }
 {
-    lits.iter().all(|k| k.is(l) || holds(set, k.neg()))
+    lits.iter().all(|k| k.is(l) || has(set, k.neg()))
 }
 
 /// A literal that the clause forces and the set lacks; none where the set is closed for the clause.
@@ -58,7 +58,7 @@ fn new_in(set: &[Lit], lits: &[Lit]) -> Option<Lit>
     ensures { MatchOption result (IsClosedFor set.now lits.now) (λ l. IsNewIn set.now lits.now l) }
 {
     for l in lits {
-        if !holds(set, *l) && forces(set, lits, *l) {
+        if !has(set, *l) && forces(set, lits, *l) {
             return Some(*l);
         }
     }

@@ -20,8 +20,6 @@ mod outside;
 #[cfg(test)]
 mod plain;
 #[cfg(test)]
-mod spaces;
-#[cfg(test)]
 mod strict;
 #[cfg(test)]
 mod words;

@@ -1,16 +1,8 @@
 // Limits of one's own.
-use crate::case::{Case, FOUR_PROOF, answers};
-use sr_base::Limits;
+use crate::case::{Case, FOUR, FOUR_PROOF, answers};
+use sr_base::{Limits, MOST_BYTES, MOST_CELLS, MOST_IDS, MOST_VARS};
 use std::alloc::Global;
 use std::test::Fail;
-
-const VARS: u32 = 16_777_215;
-
-const IDS: u32 = 2_147_483_647;
-
-const CELLS: u32 = 268_435_456;
-
-const BYTES: u64 = 4_294_967_296;
 
 #[test]
 fn cells_are_counted_for_formula_and_proof(rt: HostRuntime) -> Result<(), Fail> {
@@ -20,7 +12,7 @@ fn cells_are_counted_for_formula_and_proof(rt: HostRuntime) -> Result<(), Fail> 
         (28, 4, "e limit proof cells\n"),
         (29, 0, "s VERIFIED UNSAT\n"),
     ] {
-        let limits = Limits::new(VARS, IDS, cells, BYTES).ok_or("no limits")?;
+        let limits = Limits::new(MOST_VARS, MOST_IDS, cells, MOST_BYTES).ok_or("no limits")?;
         answers(rt.alloc(), &limits, &Case::four(FOUR_PROOF, status, report))?;
     }
     Ok(())
@@ -45,7 +37,7 @@ fn cells_of_deleted_clauses_are_free_again(rt: HostRuntime) -> Result<(), Fail> 
         (35, 0, "s VERIFIED UNSAT\n"),
         (34, 4, "e limit proof cells\n"),
     ] {
-        let limits = Limits::new(VARS, IDS, cells, BYTES).ok_or("no limits")?;
+        let limits = Limits::new(MOST_VARS, MOST_IDS, cells, MOST_BYTES).ok_or("no limits")?;
         answers(alloc, &limits, &Case::four(proof.as_str(), status, report))?;
     }
     Ok(())
@@ -57,7 +49,7 @@ fn bytes_are_counted_for_each_file(rt: HostRuntime) -> Result<(), Fail> {
         (37, 4, "e limit formula bytes\n"),
         (38, 0, "s VERIFIED UNSAT\n"),
     ] {
-        let limits = Limits::new(VARS, IDS, CELLS, bytes).ok_or("no limits")?;
+        let limits = Limits::new(MOST_VARS, MOST_IDS, MOST_CELLS, bytes).ok_or("no limits")?;
         answers(rt.alloc(), &limits, &Case::four(FOUR_PROOF, status, report))?;
     }
     Ok(())
@@ -65,16 +57,35 @@ fn bytes_are_counted_for_each_file(rt: HostRuntime) -> Result<(), Fail> {
 
 #[test]
 fn variables_and_numbers_are_bounded(rt: HostRuntime) -> Result<(), Fail> {
-    let few = Limits::new(2, IDS, CELLS, BYTES).ok_or("no limits")?;
+    let few = Limits::new(2, MOST_IDS, MOST_CELLS, MOST_BYTES).ok_or("no limits")?;
     answers(
         rt.alloc(),
         &few,
         &Case::four("5 3 0 0\n", 4, "e limit proof vars\n"),
     )?;
-    let low = Limits::new(VARS, 4, CELLS, BYTES).ok_or("no limits")?;
+    let low = Limits::new(MOST_VARS, 4, MOST_CELLS, MOST_BYTES).ok_or("no limits")?;
     answers(
         rt.alloc(),
         &low,
         &Case::four(FOUR_PROOF, 4, "e limit formula ids\n"),
     )
+}
+
+/// A formula behind more spaces than bytes may be read.
+fn formula_behind_spaces(alloc: Global, spaces: usize) -> Result<String, Fail> {
+    let mut text = String::new(alloc);
+    for _ in 0..spaces {
+        text.push_str(" ")?;
+    }
+    text.push_str(FOUR)?;
+    Ok(text)
+}
+
+#[test]
+fn what_stands_past_the_limit_of_bytes_is_not_read(rt: HostRuntime) -> Result<(), Fail> {
+    let alloc = rt.alloc();
+    let text = formula_behind_spaces(alloc, 200)?;
+    let limits = Limits::new(MOST_VARS, MOST_IDS, MOST_CELLS, 100).ok_or("no limits")?;
+    let case = Case::new(text.as_str(), FOUR_PROOF, 4, "e limit formula bytes\n");
+    answers(alloc, &limits, &case)
 }

@@ -1,11 +1,10 @@
 // Lines of proofs by lemmas, read and written again in both forms.
-ghost use Rattle.std.specs.Prelude.{IsTrue};
 ghost use Rattle.sr_desk.specs.MemoryView.{outside_of};
+ghost use Rattle.sr_desk.specs.Next.{Stands};
 
-use sr_base::{ByteList, Form, LimitKind, Limits, LitList, TextKind};
+use sr_base::{ByteList, Form, InputError, LimitKind, Limits, TextKind};
 use sr_desk::{ByteReader, Desk, MemoryDesk};
-use sr_dsr::{DsrLine, line_bytes, next_line, next_line_in};
-use sr_wit::InFault;
+use sr_dsr::{LineReader, line_bytes};
 use std::alloc::Global;
 use std::test::Fail;
 
@@ -19,24 +18,22 @@ struct Pair<'a> {
 /// The lines that a reader has still to give, written in a form; or why one isn't read.
 fn write_again(
     alloc: Global,
-    from: Form,
     to: Form,
-    reader: &mut ByteReader,
+    reader: &mut LineReader,
     desk: &mut MemoryDesk,
-) -> Result<Result<ByteList, InFault>, Fail>
-    requires { IsTrue ((outside_of desk.old).slot reader.old.slot).reads }
+) -> Result<Result<ByteList, InputError>, Fail>
+    requires { Stands reader.old.reader (outside_of desk.old) }
 {
     let limits = Limits::shipped();
     let mut out = ByteList::new(alloc);
-    let mut lits = LitList::new(alloc);
     'lines: loop {
-        match next_line_in(alloc, from, &mut lits, reader, desk, &limits) {
-            Err(fault) => return Ok(Err(fault)),
+        match reader.next(desk, &limits) {
+            Err(error) => return Ok(Err(error)),
             Ok(None) => return Ok(Ok(out)),
             Ok(Some(line)) => {
                 let bytes = line_bytes(alloc, to, &line).map_err(|_| "no memory")?;
                 out.extend(bytes.as_slice()).map_err(|_| "no memory")?;
-                lits = line.into_list();
+                reader.reuse(line);
             }
         }
     }
@@ -49,14 +46,15 @@ fn rewritten(
     to: Form,
     bytes: &[u8],
     piece: usize,
-) -> Result<Result<ByteList, InFault>, Fail> {
+) -> Result<Result<ByteList, InputError>, Fail> {
     let mut desk = MemoryDesk::new(alloc)?;
     desk.put_file("p", bytes)?;
     desk.piece(piece);
     desk.restart();
     let slot = desk.begin_read("p").map_err(|_| "no file")?;
-    let mut reader = ByteReader::new(alloc, slot, Limits::shipped().bytes())?;
-    write_again(alloc, from, to, &mut reader, &mut desk)
+    let bytes = ByteReader::new(alloc, slot, Limits::shipped().bytes())?;
+    let mut reader = LineReader::new(alloc, from, bytes)?;
+    write_again(alloc, to, &mut reader, &mut desk)
 }
 
 /// Fails where the lines aren't read, or aren't written as these bytes.
@@ -75,7 +73,7 @@ fn gives(alloc: Global, from: Form, to: Form, bytes: &[u8], wanted: &[u8]) -> Re
 }
 
 /// Fails where reading the lines doesn't end with this fault.
-fn fails(alloc: Global, form: Form, bytes: &[u8], wanted: InFault) -> Result<(), Fail> {
+fn fails(alloc: Global, form: Form, bytes: &[u8], wanted: InputError) -> Result<(), Fail> {
     for piece in [1, 1000] {
         match rewritten(alloc, form, form, bytes, piece)? {
             Ok(_) => return Err(Fail::new(format_args!("read, where {wanted:?} is wanted"))),
@@ -113,24 +111,6 @@ fn lines_are_written_as_they_were_read(rt: HostRuntime) -> Result<(), Fail> {
     Ok(())
 }
 
-/// The line at the front has literals of its own.
-#[test]
-fn a_line_is_read_alone(rt: HostRuntime) -> Result<(), Fail> {
-    let alloc = rt.alloc();
-    for (form, bytes) in [(Form::Text, DELETION.text), (Form::Binary, DELETION.binary)] {
-        let mut desk = MemoryDesk::new(alloc)?;
-        desk.put_file("p", bytes)?;
-        desk.restart();
-        let slot = desk.begin_read("p").map_err(|_| "no file")?;
-        let mut reader = ByteReader::new(alloc, slot, Limits::shipped().bytes())?;
-        match next_line(alloc, form, &mut reader, &mut desk, &Limits::shipped()) {
-            Ok(Some(DsrLine::Del(clause))) => assert!(rt; clause.lits().len() == 2),
-            _ => return Err(Fail::from("a deletion is wanted")),
-        }
-    }
-    Ok(())
-}
-
 #[test]
 fn repeats_are_written_once(rt: HostRuntime) -> Result<(), Fail> {
     let alloc = rt.alloc();
@@ -161,12 +141,12 @@ fn lines_that_are_no_lines_have_their_places(rt: HostRuntime) -> Result<(), Fail
         (Form::Binary, &[0x64, 0x02], TextKind::Unended, 2),
     ];
     for (form, bytes, kind, place) in cases {
-        fails(alloc, form, bytes, InFault::Text { kind, place })?;
+        fails(alloc, form, bytes, InputError::Text { kind, place })?;
     }
     fails(
         alloc,
         Form::Text,
         b"16777216 0\n",
-        InFault::Limit(LimitKind::Vars),
+        InputError::Limit(LimitKind::Vars),
     )
 }

@@ -1,12 +1,12 @@
+pub mod ReadLemmas
 pub mod PlainLemmas
 pub mod TextLemmas
 pub mod TokenLemmas
 pub mod RunLemmas
-pub mod LeftLemmas
 pub mod FrontLemmas
 pub mod HandLemmas
 pub mod NumberLemmas
 pub mod BinaryLemmas
+pub mod BinaryStands
 pub mod ValueLemmas
-pub mod AgainLemmas
-pub mod StreamLemmas
+pub mod WriteLemmas

@@ -5,7 +5,7 @@ use Rattle.std.proofs.lemmas.Fmt.{decimal_digit, decimal_step}
 use Rattle.std.proofs.lemmas.List.{drop-set, take_more_set}
 use Rattle.std.specs.Prelude.{nat_lt}
 use Rattle.std.proofs.lemmas.Bool.Decides.{nat_tests}
-use Rattle.sr_scan.specs.Binary.{spelled_value}
+use Rattle.sr_model.specs.Writing.{groups_for}
 use Rattle.std.proofs.Math.Nat.{pow-suc}
 
 -- a digit is put before those that are spelled
@@ -40,49 +40,50 @@ pub spell_last : (text : List ℕ) (at left size : ℕ) → length text ≡ 20 �
 spell_last text at left size len low high small digits =
     put-before text at (48 + left) (omega arith) (omega arith) ∙ ap (λ (l : List ℕ). l ++ drop at text) (sym (decimal_digit left small)) ∙ sym digits
 
-pub spelled_value-small : (more v : ℕ) → v < 128 → spelled_value more v ≡ v ∷ []
-unfolding spelled_value
-spelled_value-small zero v lt = refl
-spelled_value-small (suc k) v lt = let t : nat_lt v 128 ≡ true = grind (arith, nat_tests) in rw t refl
+pub groups_for-small : (most v : ℕ) → 0 < most → v < 128 → groups_for most v ≡ v ∷ []
+unfolding groups_for
+groups_for-small zero v some lt = absurd (omega arith)
+groups_for-small (suc k) v some lt = let t : nat_lt v 128 ≡ true = grind (arith, nat_tests) in rw t refl
 
-pub spelled_value-large : (more v : ℕ) → 0 < more → 128 ≤ v → spelled_value more v ≡ (128 + v % 128) ∷ spelled_value (more - 1) (v / 128)
-unfolding spelled_value
-spelled_value-large zero v some le = absurd (omega arith)
-spelled_value-large (suc k) v some le =
+pub groups_for-large : (most v : ℕ) → 0 < most → 128 ≤ v → groups_for most v ≡ (128 + v % 128) ∷ groups_for (most - 1) (v / 128)
+unfolding groups_for
+groups_for-large zero v some le = absurd (omega arith)
+groups_for-large (suc k) v some le =
     let t : nat_lt v 128 ≡ false = grind (arith, nat_tests) in
     let one : suc k - 1 ≡ k = omega arith in
-    rw (t, one) refl
+    let sum : v % 128 + 128 ≡ 128 + v % 128 = omega arith in
+    rw (t, one, sum) refl
 
 -- in two bytes, and in three
-pub spelled_two : (v : ℕ) → 128 ≤ v → v / 128 < 128 → spelled_value 9 v ≡ (128 + v % 128) ∷ v / 128 ∷ []
-spelled_two v le lt = spelled_value-large 9 v (omega arith) le ∙ ap (λ (ls : List ℕ). (128 + v % 128) ∷ ls) (spelled_value-small 8 (v / 128) lt)
+pub spelled_two : (v : ℕ) → 128 ≤ v → v / 128 < 128 → groups_for 10 v ≡ (128 + v % 128) ∷ v / 128 ∷ []
+spelled_two v le lt = groups_for-large 10 v (omega arith) le ∙ ap (λ (ls : List ℕ). (128 + v % 128) ∷ ls) (groups_for-small 9 (v / 128) (omega arith) lt)
 
-pub spelled_three : (v : ℕ) → 128 ≤ v → 128 ≤ v / 128 → v / 128 / 128 < 128 → spelled_value 9 v ≡ (128 + v % 128) ∷ (128 + v / 128 % 128) ∷ v / 128 / 128 ∷ []
+pub spelled_three : (v : ℕ) → 128 ≤ v → 128 ≤ v / 128 → v / 128 / 128 < 128 → groups_for 10 v ≡ (128 + v % 128) ∷ (128 + v / 128 % 128) ∷ v / 128 / 128 ∷ []
 spelled_three v le more lt =
-    spelled_value-large 9 v (omega arith) le
-    ∙ ap (λ (ls : List ℕ). (128 + v % 128) ∷ ls) (spelled_value-large 8 (v / 128) (omega arith) more ∙ ap (λ (ls : List ℕ). (128 + v / 128 % 128) ∷ ls) (spelled_value-small 7 (v / 128 / 128) lt))
+    groups_for-large 10 v (omega arith) le
+    ∙ ap (λ (ls : List ℕ). (128 + v % 128) ∷ ls) (groups_for-large 9 (v / 128) (omega arith) more ∙ ap (λ (ls : List ℕ). (128 + v / 128 % 128) ∷ ls) (groups_for-small 8 (v / 128 / 128) (omega arith) lt))
 
 pub record SpellsBytes (bytes : List ℕ) (len left value : ℕ) : Type 0 where
   pub few : len ≤ 4
   pub room : left < 128 ^ (5 - len)
-  pub bytes_are : spelled_value 9 value ≡ take len bytes ++ spelled_value (9 - len) left
+  pub bytes_are : groups_for 10 value ≡ take len bytes ++ groups_for (10 - len) left
 
-pub bytes_more : (bytes : List ℕ) (len left value : ℕ) → length bytes ≡ 5 → len ≤ 4 → left < 128 ^ (5 - len) → 128 ≤ left → spelled_value 9 value ≡ take len bytes ++ spelled_value (9 - len) left
+pub bytes_more : (bytes : List ℕ) (len left value : ℕ) → length bytes ≡ 5 → len ≤ 4 → left < 128 ^ (5 - len) → 128 ≤ left → groups_for 10 value ≡ take len bytes ++ groups_for (10 - len) left
     → SpellsBytes (set bytes len (128 + left % 128)) (len + 1) (left / 128) value
 bytes_more bytes len left value size few room large are =
     let more : len ≢ 4 = λ e. absurd (let bound : left < 128 ^ (5 - 4) = rw e at room in omega arith) in
     let next : 5 - len ≡ suc (5 - (len + 1)) = omega arith in
     let power : 128 ^ (5 - len) ≡ 128 ^ (5 - (len + 1)) * 128 = ap (λ (n : ℕ). 128 ^ n) next ∙ pow-suc 128 (5 - (len + 1)) in
-    let fuel : 9 - len - 1 ≡ 9 - (len + 1) = omega arith in
+    let fuel : 10 - len - 1 ≡ 10 - (len + 1) = omega arith in
     record {
       few = omega arith;
       room = omega (arith, power, room);
-      bytes_are = are ∙ ap (λ (l : List ℕ). take len bytes ++ l) (spelled_value-large (9 - len) left (omega arith) large ∙ rw fuel refl)
-          ∙ sym (append_assoc (take len bytes) ((128 + left % 128) ∷ []) (spelled_value (9 - (len + 1)) (left / 128)))
-          ∙ ap (λ (l : List ℕ). l ++ spelled_value (9 - (len + 1)) (left / 128)) (sym (take_more_set bytes len (128 + left % 128) (omega arith)));
+      bytes_are = are ∙ ap (λ (l : List ℕ). take len bytes ++ l) (groups_for-large (10 - len) left (omega arith) large ∙ rw fuel refl)
+          ∙ sym (append_assoc (take len bytes) ((128 + left % 128) ∷ []) (groups_for (10 - (len + 1)) (left / 128)))
+          ∙ ap (λ (l : List ℕ). l ++ groups_for (10 - (len + 1)) (left / 128)) (sym (take_more_set bytes len (128 + left % 128) (omega arith)));
     }
 
-pub bytes_last : (bytes : List ℕ) (len left value : ℕ) → length bytes ≡ 5 → len ≤ 4 → left < 128 → spelled_value 9 value ≡ take len bytes ++ spelled_value (9 - len) left
-    → take (len + 1) (set bytes len left) ≡ spelled_value 9 value
+pub bytes_last : (bytes : List ℕ) (len left value : ℕ) → length bytes ≡ 5 → len ≤ 4 → left < 128 → groups_for 10 value ≡ take len bytes ++ groups_for (10 - len) left
+    → take (len + 1) (set bytes len left) ≡ groups_for 10 value
 bytes_last bytes len left value size few small are =
-    take_more_set bytes len left (omega arith) ∙ ap (λ (l : List ℕ). take len bytes ++ l) (sym (spelled_value-small (9 - len) left small)) ∙ sym are
+    take_more_set bytes len left (omega arith) ∙ ap (λ (l : List ℕ). take len bytes ++ l) (sym (groups_for-small (10 - len) left (omega arith) small)) ∙ sym are

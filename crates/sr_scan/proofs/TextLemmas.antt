@@ -1,152 +1,112 @@
 -- What one call of a reader does to the tokens that are left.
-use Rattle.std.proofs.Common.{◌≡◌, ◌≢◌, ℕ, zero, suc, ◌+◌, ◌-◌, ◌<◌, true, false, List, [], ◌∷◌, Option, Some, None, Ok, Err, refl, sym, ◌∙◌, ap, arith}
-use Rattle.std.specs.Prelude.{option_map}
-use Rattle.sr_desk.specs.Outside.{Outside}
+use Rattle.std.proofs.Common.{◌≡◌, ◌≢◌, ℕ, zero, suc, ◌+◌, ◌-◌, ◌<◌, true, false, List, [], ◌∷◌, Option, Some, None, Ok, Err, refl, sym, ◌∙◌, ap, subst, arith}
+use Rattle.sr_base.specs.Contents.{Ending, ended, failed, Contents}
+use Rattle.sr_base.specs.declared.names.InputError.{InputError}
+use Rattle.sr_desk.specs.Outside.{Outside, Agrees}
 use Rattle.sr_desk.specs.Reader.{Reader}
-use Rattle.sr_desk.specs.Next.{remaining, Keeps, TakesByte, MeetsEnd, MeetsLimit, Next, IsSameReader}
-use Rattle.sr_desk.specs.declared.reader.ReadStop.{ReadStop}
-use Rattle.sr_desk.specs.declared.reader.ReadStop.TheVariants as stop
+use Rattle.sr_desk.specs.Next.{remaining, TakesByte, MeetsEnd, Next, is_read_fault}
+use Rattle.sr_desk.specs.declared.reader.ReadError.{ReadError}
+use Rattle.sr_desk.specs.declared.reader.ReadError.TheVariants as stop
 use Rattle.sr_scan.specs.declared.lexeme.Lexeme.{Lexeme}
 use Rattle.sr_scan.specs.declared.lexeme.Gap.{Gap}
 use Rattle.sr_scan.specs.Lexeme.{begun, word_of, gap_at, gap_after, extended}
 use Rattle.sr_model.specs.Words.{is_white}
-use Rattle.sr_model.specs.Texts.{Texts, finished, over, judged}
-use Rattle.sr_scan.specs.Machine.{Mode, between, within, begins, moved, told, ended, texts}
-use Rattle.sr_scan.specs.Left.{texts_in, machine_left, Are, Begins, Finishes}
+use Rattle.sr_model.specs.Tokens.{Tokens, finished, over, lost, judged}
+use Rattle.sr_scan.specs.Machine.{Mode, between, within, begins, moved, told, last_told, texts, texts_in, machine_left}
+use Rattle.sr_scan.specs.Left.{RefusesToken, error_of, is_source}
 
-pub texts-cons : (m : Mode) (room : ℕ) (place : ℕ) (b : ℕ) (bs : List ℕ) → 0 < room
-    → texts m room place (b ∷ bs) ≡ told m b (texts (moved m b place) (room - 1) (place + 1) bs)
+pub texts-cons : (e : Ending) (m : Mode) (room : ℕ) (place : ℕ) (b : ℕ) (bs : List ℕ) → 0 < room
+    → texts e m room place (b ∷ bs) ≡ told m b (texts e (moved m b place) (room - 1) (place + 1) bs)
 unfolding texts
-texts-cons m zero place b bs lt = absurd (omega arith)
-texts-cons m (suc k) place b bs lt = refl
+texts-cons e m zero place b bs lt = absurd (omega arith)
+texts-cons e m (suc k) place b bs lt = refl
 
-pub texts-nil : (m : Mode) (room : ℕ) (place : ℕ) → texts m room place [] ≡ ended m place
+pub texts-nil : (e : Ending) (m : Mode) (room : ℕ) (place : ℕ) → texts e m room place [] ≡ last_told e m place
 unfolding texts
-texts-nil m room place = refl
+texts-nil e m room place = refl
 
-pub texts-over : (m : Mode) (place : ℕ) (bytes : List ℕ) → bytes ≢ [] → texts m 0 place bytes ≡ over
+pub texts-over : (e : Ending) (m : Mode) (place : ℕ) (bytes : List ℕ) → bytes ≢ [] → texts e m 0 place bytes ≡ over
 unfolding texts
-texts-over m place [] ne = absurd (ne refl)
-texts-over m place (b ∷ bs) ne = refl
+texts-over e m place [] ne = absurd (ne refl)
+texts-over e m place (b ∷ bs) ne = refl
 
--- the told value of a mapped option
-pub of_map : {A B : Type 0} (f : A → B) (o : Option A) (y : B) → option_map f o ≡ Some y → (x : A) × (o ≡ Some x) × (y ≡ f x)
-of_map f None y h = cc
-of_map f (Some x) y h = (x, refl, cc)
+-- an error of the reader, and of what reads tokens
+pub same_fault : (A : Type 0) (s : ReadError) → is_read_fault {T = A} (Err s) ≡ is_source (error_of s)
+same_fault A stop.Fault = refl
+same_fault A stop.Limit = refl
 
 -- a byte was taken: the tokens are those that it told, and then those that are left
-pub taken_byte : (old new : Reader) (before after : Outside) (b : ℕ) → TakesByte old new before after b
-    → (m : Mode) (all : Texts) → texts_in m old before ≡ Some all
-    → (rest : Texts) × (all ≡ told m b rest) × (texts_in (moved m b old.taken) new after ≡ Some rest)
-taken_byte old new before after b t m all h =
-    let found = of_map (texts m (old.limit - old.taken) old.taken) (remaining old before) all h in
-    let split = t.bytes found.0 found.1 in
-    go found.0 split.0 found.2 split.1 split.2
-  where
-    go : (bytes rest : List ℕ) → all ≡ texts m (old.limit - old.taken) old.taken bytes → bytes ≡ b ∷ rest → remaining new after ≡ Some rest
-        → (rest : Texts) × (all ≡ told m b rest) × (texts_in (moved m b old.taken) new after ≡ Some rest)
-    go bytes rest is split left =
-        let limit : new.limit ≡ old.limit = ap (λ (r : Reader). r.limit) t.same in
-        let taken : new.taken ≡ old.taken + 1 = ap (λ (r : Reader). r.taken) t.same in
-        let room : old.limit - old.taken - 1 ≡ new.limit - new.taken = omega arith in
-        let some : 0 < old.limit - old.taken = omega (arith, t.room) in
-        let first : texts m (old.limit - old.taken) old.taken (b ∷ rest) ≡ told m b (texts (moved m b old.taken) (new.limit - new.taken) new.taken rest) =
-        texts-cons m (old.limit - old.taken) old.taken b rest some ∙ rw (room, ← taken) refl in (
-          texts (moved m b old.taken) (new.limit - new.taken) new.taken rest,
-          is ∙ ap (texts m (old.limit - old.taken) old.taken) split ∙ first,
-          ap (option_map (texts (moved m b old.taken) (new.limit - new.taken) new.taken)) left,
-        )
+pub taken_byte : (old new : Reader) (o : Outside) (b : ℕ) (c : Contents) → TakesByte old new o b → Agrees (o.slot new.slot) c
+    → (m : Mode) → texts_in m old c ≡ told m b (texts_in (moved m b old.taken) new c)
+taken_byte old new o b c t h m =
+    let limit : new.limit ≡ old.limit = ap (λ (r : Reader). r.limit) t.same in
+    let taken : new.taken ≡ old.taken + 1 = ap (λ (r : Reader). r.taken) t.same in
+    let room : old.limit - old.taken - 1 ≡ new.limit - new.taken = omega arith in
+    let some : 0 < old.limit - old.taken = omega (arith, t.room) in
+    ap (texts c.ending m (old.limit - old.taken) old.taken) (t.bytes c h)
+    ∙ texts-cons c.ending m (old.limit - old.taken) old.taken b (remaining new c) some
+    ∙ ap (λ (k : ℕ). told m b (texts c.ending (moved m b old.taken) k (old.taken + 1) (remaining new c))) room
+    ∙ ap (λ (k : ℕ). told m b (texts c.ending (moved m b old.taken) (new.limit - new.taken) k (remaining new c))) (sym taken)
 
 -- the end was met
-pub met_end : (old new : Reader) (before after : Outside) → MeetsEnd old new before after
-    → (m : Mode) (all : Texts) → texts_in m old before ≡ Some all → all ≡ ended m old.taken
-met_end old new before after t m all h =
-    let found = of_map (texts m (old.limit - old.taken) old.taken) (remaining old before) all h in
-    found.2 ∙ ap (texts m (old.limit - old.taken) old.taken) (t.bytes found.0 found.1) ∙ texts-nil m (old.limit - old.taken) old.taken
+pub met_end : (old new : Reader) (o : Outside) (c : Contents) → MeetsEnd old new o → Agrees (o.slot new.slot) c
+    → (m : Mode) → texts_in m old c ≡ last_told ended m old.taken
+met_end old new o c t h m =
+    let b = t.bytes c h in
+    ap (texts c.ending m (old.limit - old.taken) old.taken) b.0 ∙ texts-nil c.ending m (old.limit - old.taken) old.taken ∙ ap (λ (e : Ending). last_told e m old.taken) b.1
 
-pub at_end : (old new : Reader) (before after : Outside) → MeetsEnd old new before after
-    → (m : Mode) → texts_in m new after ≡ Some (ended m old.taken)
-at_end old new before after t m =
-    let left : remaining new after ≡ Some [] = rw t.same refl in
-    let taken : new.taken ≡ old.taken = ap (λ (r : Reader). r.taken) t.same in
-    ap (option_map (texts m (new.limit - new.taken) new.taken)) left
-    ∙ ap (λ (x : Texts). Some x) (texts-nil m (new.limit - new.taken) new.taken ∙ ap (ended m) taken)
+pub at_end : (old new : Reader) (o : Outside) (c : Contents) → MeetsEnd old new o → Agrees (o.slot new.slot) c
+    → (m : Mode) → texts_in m new c ≡ last_told ended m new.taken
+at_end old new o c t h m =
+    let b = t.bytes c h in
+    let left : remaining new c ≡ [] = rw t.same b.0 in
+    ap (texts c.ending m (new.limit - new.taken) new.taken) left ∙ texts-nil c.ending m (new.limit - new.taken) new.taken ∙ ap (λ (e : Ending). last_told e m new.taken) b.1
 
--- the limit was met
-pub met_limit : (old : Reader) (before : Outside) → MeetsLimit old before → (m : Mode) → Are (texts_in m old before) over
-met_limit old before t m all h =
-    let found = of_map (texts m (old.limit - old.taken) old.taken) (remaining old before) all h in
-    go found.0 found.2 (t.bytes found.0 found.1) (omega (arith, t.taken))
-  where
-    go : (bytes : List ℕ) → all ≡ texts m (old.limit - old.taken) old.taken bytes → bytes ≢ [] → old.limit - old.taken ≡ 0 → all ≡ over
-    go bytes is ne room = is ∙ ap (λ (k : ℕ). texts m k old.taken bytes) room ∙ texts-over m old.taken bytes ne
+-- the limit was met, or a read failed
+pub refused : (old new : Reader) (o : Outside) (c : Contents) (s : ReadError) → Next old new o (Err s) → Agrees (o.slot new.slot) c
+    → (m : Mode) → RefusesToken (texts_in m old c) (error_of s)
+refused old new o c stop.Limit t h m =
+    let room : old.limit - old.taken ≡ 0 = omega (arith, t.taken) in
+    ap (λ (k : ℕ). texts c.ending m k old.taken (remaining old c)) room ∙ texts-over c.ending m old.taken (remaining old c) (t.bytes c h)
+refused old new o c stop.Fault t h m =
+    let b = t.bytes c h in
+    ap (texts c.ending m (old.limit - old.taken) old.taken) b.0 ∙ texts-nil c.ending m (old.limit - old.taken) old.taken ∙ ap (λ (e : Ending). last_told e m old.taken) b.1
 
 -- the steps of the loop that passes over a gap
-pub gap_goes_on : (old new : Reader) (before after : Outside) (b : ℕ) → TakesByte old new before after b
-    → (g h : Gap) → Some h ≡ gap_after g b → Keeps (texts_in (between g) old before) (texts_in (between h) new after)
-gap_goes_on old new before after b t g h e all was =
-    let step = taken_byte old new before after b t (between g) all was in
+pub gap_goes_on : (old new : Reader) (o : Outside) (b : ℕ) (c : Contents) → TakesByte old new o b → Agrees (o.slot new.slot) c
+    → (g h : Gap) → Some h ≡ gap_after g b → texts_in (between g) old c ≡ texts_in (between h) new c
+gap_goes_on old new o b c t a g h e =
     let mode : between h ≡ moved (between g) b old.taken = ap (begins old.taken b) e in
-    ap (λ (m : Mode). texts_in m new after) mode ∙ step.2 ∙ ap (λ (x : Texts). Some x) (sym step.1)
+    taken_byte old new o b c t a (between g) ∙ ap (λ (m : Mode). texts_in m new c) (sym mode)
 
-pub gap_ends : (old new : Reader) (before after : Outside) (b : ℕ) → TakesByte old new before after b
-    → (g : Gap) → None ≡ gap_after g b → Keeps (texts_in (between g) old before) (texts_in (within (new.taken - 1) (begun b)) new after)
-gap_ends old new before after b t g e all was =
-    let step = taken_byte old new before after b t (between g) all was in
+pub gap_ends : (old new : Reader) (o : Outside) (b : ℕ) (c : Contents) → TakesByte old new o b → Agrees (o.slot new.slot) c
+    → (g : Gap) → None ≡ gap_after g b → texts_in (between g) old c ≡ texts_in (within (new.taken - 1) (begun b)) new c
+gap_ends old new o b c t a g e =
     let taken : new.taken ≡ old.taken + 1 = ap (λ (r : Reader). r.taken) t.same in
-    let place : new.taken - 1 ≡ old.taken = omega arith in
+    let place : old.taken ≡ new.taken - 1 = omega arith in
     let mode : within old.taken (begun b) ≡ moved (between g) b old.taken = ap (begins old.taken b) e in
-    ap (λ (p : ℕ). texts_in (within p (begun b)) new after) place
-    ∙ ap (λ (m : Mode). texts_in m new after) mode ∙ step.2 ∙ ap (λ (x : Texts). Some x) (sym step.1)
+    taken_byte old new o b c t a (between g) ∙ ap (λ (m : Mode). texts_in m new c) (sym mode)
+    ∙ ap (λ (p : ℕ). texts_in (within p (begun b)) new c) place
 
 -- the steps of the loop that reads a token
-pub token_goes_on : (old new : Reader) (before after : Outside) (b : ℕ) → TakesByte old new before after b
-    → (l : Lexeme) → is_white b ≡ false → (place : ℕ) → Keeps (texts_in (within place l) old before) (texts_in (within place (extended l b)) new after)
-token_goes_on old new before after b t l e place all was =
-    let step = taken_byte old new before after b t (within place l) all was in
-    let mode : moved (within place l) b old.taken ≡ within place (extended l b) = rw e refl in
-    let same : all ≡ step.0 = step.1 ∙ rw e refl in
-    ap (λ (m : Mode). texts_in m new after) (sym mode) ∙ step.2 ∙ ap (λ (x : Texts). Some x) (sym same)
+pub token_goes_on : (old new : Reader) (o : Outside) (b : ℕ) (c : Contents) → TakesByte old new o b → Agrees (o.slot new.slot) c
+    → (l : Lexeme) → is_white b ≡ false → (place : ℕ) → texts_in (within place l) old c ≡ texts_in (within place (extended l b)) new c
+token_goes_on old new o b c t a l e place = taken_byte old new o b c t a (within place l) ∙ rw e refl
 
-pub token_ends : (old new : Reader) (before after : Outside) (b : ℕ) → TakesByte old new before after b
-    → (l : Lexeme) → is_white b ≡ true → (place : ℕ) (all : Texts) → texts_in (within place l) old before ≡ Some all
-    → (rest : Texts) × (all ≡ judged place (word_of l) rest) × (machine_left new after ≡ Some rest)
-token_ends old new before after b t l e place all was =
-    let step = taken_byte old new before after b t (within place l) all was in
+pub token_ends : (old new : Reader) (o : Outside) (b : ℕ) (c : Contents) → TakesByte old new o b → Agrees (o.slot new.slot) c
+    → (l : Lexeme) → is_white b ≡ true → (place : ℕ) → texts_in (within place l) old c ≡ judged place (word_of l) (machine_left new c)
+token_ends old new o b c t a l e place =
     let last : new.last ≡ Some b = ap (λ (r : Reader). r.last) t.same in
-    let mode : moved (within place l) b old.taken ≡ between (gap_at new.last) = rw (e, last) refl in
-    (step.0, step.1 ∙ rw e refl, ap (λ (m : Mode). texts_in m new after) (sym mode) ∙ step.2)
+    taken_byte old new o b c t a (within place l) ∙ rw (e, last) refl
 
-pub begins_err : (first old new : Reader) (start before after : Outside) (stop : ReadStop) (g : Gap)
-    → Keeps (machine_left first start) (texts_in (between g) old before) → Next old new before after (Err stop) → Begins first new start after (Err stop)
-begins_err first old new start before after stop.Limit g keeps n = λ all h. met_limit old before n (between g) all (keeps all h)
-begins_err first old new start before after stop.Fault g keeps n = tt
+-- the same, of what the machine gives for the reader that it began with
+pub begins_err : (first old new : Reader) (o : Outside) (c : Contents) (s : ReadError) (m k : Mode) → texts_in k first c ≡ texts_in m old c → Next old new o (Err s) → Agrees (o.slot new.slot) c
+    → RefusesToken (texts_in k first c) (error_of s)
+begins_err first old new o c s m k same n h = subst (λ (t : Tokens). RefusesToken t (error_of s)) (sym same) (refused old new o c s n h m)
 
-pub begins_none : (first old new : Reader) (start before after : Outside) (g : Gap)
-    → Keeps (machine_left first start) (texts_in (between g) old before) → MeetsEnd old new before after → Begins first new start after (Ok None)
-begins_none first old new start before after g keeps n =
-    let taken : new.taken ≡ old.taken = ap (λ (r : Reader). r.taken) n.same in (
-      λ all h. ap (λ (k : ℕ). Some (finished k)) taken ∙ ap (λ (x : Texts). Some x) (sym (met_end old new before after n (between g) all (keeps all h))),
-      at_end old new before after n (between (gap_at new.last)) ∙ ap (λ (k : ℕ). Some (finished k)) (sym taken),
-    )
-
-pub begins_some : (first old new : Reader) (start before after : Outside) (g : Gap) (b : ℕ) → IsSameReader first old
-    → Keeps (machine_left first start) (texts_in (between g) old before) → TakesByte old new before after b → None ≡ gap_after g b → Begins first new start after (Ok (Some b))
-begins_some first old new start before after g b same keeps t e =
-    let taken : new.taken ≡ old.taken + 1 = ap (λ (r : Reader). r.taken) t.same in
-    let limit : new.limit ≡ old.limit = ap (λ (r : Reader). r.limit) t.same in
-    let had : old.limit ≡ first.limit = same.limit in
-    (omega arith, omega (arith, t.room, same.later), λ all h. gap_ends old new before after b t g e all (keeps all h))
-
-pub finishes_err : (first old new : Reader) (start before after : Outside) (stop : ReadStop) (l k : Lexeme)
-    → ((place : ℕ) → Keeps (texts_in (within place l) first start) (texts_in (within place k) old before)) → Next old new before after (Err stop) → Finishes l first new start after (Err stop)
-finishes_err first old new start before after stop.Limit l k keeps n = λ place all h. met_limit old before n (within place k) all (keeps place all h)
-finishes_err first old new start before after stop.Fault l k keeps n = tt
-
-pub finishes_end : (first old new : Reader) (start before after : Outside) (l k : Lexeme)
-    → ((place : ℕ) → Keeps (texts_in (within place l) first start) (texts_in (within place k) old before)) → MeetsEnd old new before after → Finishes l first new start after (Ok k)
-finishes_end first old new start before after l k keeps n place all h =
-    (finished old.taken, met_end old new before after n (within place k) all (keeps place all h), at_end old new before after n (between (gap_at new.last)))
-
-pub Keeps-trans : {A : Type 0} (x y z : Option A) → Keeps x y → Keeps y z → Keeps x z
-Keeps-trans x y z h k a e = k a (h a e)
+-- the end of the file ends a token
+pub end_finishes : (old new : Reader) (o : Outside) (c : Contents) (place : ℕ) (l : Lexeme) → MeetsEnd old new o → Agrees (o.slot new.slot) c
+    → texts_in (within place l) old c ≡ judged place (word_of l) (machine_left new c)
+end_finishes old new o c place l met h =
+    let taken : new.taken ≡ old.taken = ap (λ (r : Reader). r.taken) met.same in
+    met_end old new o c met h (within place l) ∙ ap (λ (t : Tokens). judged place (word_of l) t) (ap finished (sym taken) ∙ sym (at_end old new o c met h (between (gap_at new.last))))

@@ -12,9 +12,13 @@ use Rattle.sr_model.specs.Words.{is_white, is_digit}
 use Rattle.sr_scan.specs.Lexeme.{begun, extended, word_of, gap_at, gap_after}
 use Rattle.sr_model.specs.Words.{said_by, number_by}
 use Rattle.sr_scan.specs.Machine.{lexeme_after}
-use Rattle.sr_model.specs.Texts.{Texts, finished, over, judged}
-use Rattle.sr_scan.specs.Machine.{Mode, between, within, begins, moved, told, texts}
-use Rattle.sr_model.specs.Tokens.{Run, first_line, next_lines, run, runs_in, is_comment, tokens_of_line, tokens_of_lines, begins_line, tokens_from, said, kept_below, spelled_from, spelled}
+use Rattle.sr_base.specs.Contents.{Ending, ended, failed, Contents}
+use Rattle.sr_desk.specs.Reader.{Reader}
+use Rattle.sr_desk.specs.Next.{remaining}
+use Rattle.sr_model.specs.Tokens.{Tokens, finished, over, lost, judged}
+use Rattle.sr_scan.specs.Machine.{Mode, between, within, begins, moved, told, texts, machine_left}
+use Rattle.sr_scan.specs.Left.{text_left}
+use Rattle.sr_model.specs.TextTokens.{Run, first_line, next_lines, run, runs_in, is_comment, tokens_of_line, tokens_of_lines, begins_line, tokens_from, said, kept_below, all_said, spelled_from}
 use Rattle.sr_scan.proofs.PlainLemmas.{digits-said, malformed, other}
 use Rattle.sr_scan.proofs.TextLemmas.{texts-cons, texts-nil, texts-over}
 
@@ -86,10 +90,6 @@ lexeme-more l (w ∷ ws) b = lexeme-more (extended l w) ws b
 abbrev kept : Bool → ℕ → List Run → List Run
 kept true limit rs = rs
 kept false limit rs = kept_below limit rs
-
-abbrev ending : Bool → ℕ → Texts
-ending true n = finished n
-ending false n = over
 
 kept-append : (limit : ℕ) (xs ys : List Run) → kept_below limit (xs ++ ys) ≡ kept_below limit xs ++ kept_below limit ys
 kept-append limit [] ys = refl
@@ -246,38 +246,37 @@ step-gap g h place b bs e = go (b == 10) refl (is_white b) refl (b == 99) refl g
     go false t false v true k Line e = let same : h ≡ Comment = cc (rw (v, k) at e) in rw same (step-comment place b bs t v k)
     go false t false v false k Line e = let bad = rw (v, k) at e in cc
 
--- the tokens of the machine are those of the definition
-record Law (bs : List ℕ) (room place limit n : ℕ) (whole : Bool) : Type 0 where
-  gap : (g : Gap) → texts (between g) room place bs ≡ said (kept whole limit (left g place bs)) (ending whole n)
+-- the tokens of the machine are those of the definition: of the runs all, or those below the limit, and what stands at their end
+record Law (e : Ending) (bs : List ℕ) (room place limit : ℕ) (all : Bool) (end : Tokens) : Type 0 where
+  gap : (g : Gap) → texts e (between g) room place bs ≡ said (kept all limit (left g place bs)) end
   token : (p b : ℕ) (ws : List ℕ) → p + length (b ∷ ws) ≡ place
-      → texts (within p (lexeme_after (begun b) ws)) room place bs ≡ said (kept whole limit (left_within p (b ∷ ws) place bs)) (ending whole n)
+      → texts e (within p (lexeme_after (begun b) ws)) room place bs ≡ said (kept all limit (left_within p (b ∷ ws) place bs)) end
 
-law-nil : (room place limit n : ℕ) (whole : Bool) → place ≡ n → whole ≡ true → Law [] room place limit n whole
-law-nil room place limit n true e w = record {
+-- where the file ends
+law-end : (room place limit : ℕ) → Law ended [] room place limit true (finished place)
+law-end room place limit = record {
   gap = none;
   token = λ p b ws len.
       let word : (b ∷ ws) ++ [] ≡ b ∷ ws = append-nil (b ∷ ws) in
-      texts-nil (within p (lexeme_after (begun b) ws)) room place
+      texts-nil ended (within p (lexeme_after (begun b) ws)) room place
       ∙ ap (λ w. judged p w (finished place)) (said-lexeme b ws)
-      ∙ ap (λ k. judged p (said_by (b ∷ ws)) (finished k)) e
-      ∙ ap (λ w. judged p (said_by w) (finished n)) (sym word);
+      ∙ ap (λ w. judged p (said_by w) (finished place)) (sym word);
 }
   where
-    none : (g : Gap) → texts (between g) room place [] ≡ said (kept true limit (left g place [])) (ending true n)
-    none Comment = texts-nil (between Comment) room place ∙ ap finished e
-    none Words = texts-nil (between Words) room place ∙ ap finished e
-    none Line = texts-nil (between Line) room place ∙ ap finished e
-law-nil room place limit n false e w = cc
+    none : (g : Gap) → texts ended (between g) room place [] ≡ said (kept true limit (left g place [])) (finished place)
+    none Comment = texts-nil ended (between Comment) room place
+    none Words = texts-nil ended (between Words) room place
+    none Line = texts-nil ended (between Line) room place
 
-law-over : (b : ℕ) (bs : List ℕ) (place limit n : ℕ) (whole : Bool) → place ≡ limit → whole ≡ false → Law (b ∷ bs) 0 place limit n whole
-law-over b bs place limit n true e w = cc
-law-over b bs place limit n false e w = record {
-  gap = λ g. texts-over (between g) place (b ∷ bs) (λ h. cc) ∙ sym (ap (λ l. said l over) (none-left limit g place (b ∷ bs) (omega arith)));
+-- where nothing more is read
+law-stop : (e : Ending) (bs : List ℕ) (room place limit : ℕ) (end : Tokens) → limit ≤ place → ((m : Mode) → texts e m room place bs ≡ end) → Law e bs room place limit false end
+law-stop e bs room place limit end le stops = record {
+  gap = λ g. stops (between g) ∙ sym (ap (λ l. said l end) (none-left limit g place bs le));
   token = λ p c ws len.
-      let past : nat_lt (p + length ((c ∷ ws) ++ run (first_line (b ∷ bs)))) limit ≡ false = not_below p (c ∷ ws) (run (first_line (b ∷ bs))) limit (omega arith) in
-      let rest : kept_below limit (runs_in false place (first_line (b ∷ bs)) ++ later place (b ∷ bs)) ≡ [] = none-rest limit place (b ∷ bs) (omega arith) in
-      let none : kept_below limit (left_within p (c ∷ ws) place (b ∷ bs)) ≡ [] = not_first limit (record { place = p; bytes = (c ∷ ws) ++ run (first_line (b ∷ bs)) }) _ past ∙ rest in
-      texts-over (within p (lexeme_after (begun c) ws)) place (b ∷ bs) (λ h. cc) ∙ sym (ap (λ l. said l over) none);
+      let past : nat_lt (p + length ((c ∷ ws) ++ run (first_line bs))) limit ≡ false = not_below p (c ∷ ws) (run (first_line bs)) limit (omega arith) in
+      let rest : kept_below limit (runs_in false place (first_line bs) ++ later place bs) ≡ [] = none-rest limit place bs le in
+      let none : kept_below limit (left_within p (c ∷ ws) place bs) ≡ [] = not_first limit (record { place = p; bytes = (c ∷ ws) ++ run (first_line bs) }) _ past ∙ rest in
+      stops (within p (lexeme_after (begun c) ws)) ∙ sym (ap (λ l. said l end) none);
 }
   where
     not_below : (p : ℕ) (ws more : List ℕ) (limit : ℕ) → limit ≤ p + length ws → nat_lt (p + length (ws ++ more)) limit ≡ false
@@ -291,73 +290,84 @@ law-over b bs place limit n false e w = record {
         kept-append limit (runs_in false place (first_line bs)) (later place bs)
         ∙ rw (none-runs limit false place (first_line bs) le, none-lines limit (place + length (first_line bs) + 1) (next_lines bs) (omega arith)) refl
 
-kept-first : (whole : Bool) (limit : ℕ) (r : Run) (rs : List Run) → r.place + length r.bytes < limit → kept whole limit (r ∷ rs) ≡ r ∷ kept whole limit rs
+kept-first : (all : Bool) (limit : ℕ) (r : Run) (rs : List Run) → r.place + length r.bytes < limit → kept all limit (r ∷ rs) ≡ r ∷ kept all limit rs
 kept-first true limit r rs lt = refl
 kept-first false limit r rs lt = let t : nat_lt (r.place + length r.bytes) limit ≡ true = grind (arith, nat_tests) in rw t refl
 
-law-cons : (b : ℕ) (bs : List ℕ) (room place limit n : ℕ) (whole : Bool) → place + suc room ≡ limit → Law bs room (place + 1) limit n whole → Law (b ∷ bs) (suc room) place limit n whole
-law-cons b bs room place limit n whole lim later = record { gap = λ g. gaps g (gap_after g b) refl; token = λ p c ws len. token p c ws len (is_white b) refl }
+law-cons : (e : Ending) (b : ℕ) (bs : List ℕ) (room place limit : ℕ) (all : Bool) (end : Tokens) → place < limit → Law e bs room (place + 1) limit all end → Law e (b ∷ bs) (suc room) place limit all end
+law-cons e b bs room place limit all end lim later = record { gap = λ g. gaps g (gap_after g b) refl; token = λ p c ws len. token p c ws len (is_white b) refl }
   where
-    first : (m : Mode) → texts m (suc room) place (b ∷ bs) ≡ told m b (texts (moved m b place) room (place + 1) bs)
+    first : (m : Mode) → texts e m (suc room) place (b ∷ bs) ≡ told m b (texts e (moved m b place) room (place + 1) bs)
     first m = let same : suc room - 1 ≡ room = omega arith in
-        texts-cons m (suc room) place b bs (omega arith) ∙ ap (λ r. told m b (texts (moved m b place) r (place + 1) bs)) same
+        texts-cons e m (suc room) place b bs (omega arith) ∙ ap (λ r. told m b (texts e (moved m b place) r (place + 1) bs)) same
 
-    gaps : (g : Gap) (o : Option Gap) → gap_after g b ≡ o → texts (between g) (suc room) place (b ∷ bs) ≡ said (kept whole limit (left g place (b ∷ bs))) (ending whole n)
-    gaps g (Some h) e =
+    gaps : (g : Gap) (o : Option Gap) → gap_after g b ≡ o → texts e (between g) (suc room) place (b ∷ bs) ≡ said (kept all limit (left g place (b ∷ bs))) end
+    gaps g (Some h) f =
         first (between g)
-        ∙ ap (λ o. texts (begins place b o) room (place + 1) bs) e
+        ∙ ap (λ o. texts e (begins place b o) room (place + 1) bs) f
         ∙ later.gap h
-        ∙ ap (λ l. said (kept whole limit l) (ending whole n)) (sym (step-gap g h place b bs e))
-    gaps g None e = starts g e (is_white b) refl
+        ∙ ap (λ l. said (kept all limit l) end) (sym (step-gap g h place b bs f))
+    gaps g None f = starts g f (is_white b) refl
       where
-        starts : (g : Gap) → gap_after g b ≡ None → (w : Bool) → is_white b ≡ w → texts (between g) (suc room) place (b ∷ bs) ≡ said (kept whole limit (left g place (b ∷ bs))) (ending whole n)
-        starts Comment e w v = cc
-        starts Words e true v = let bad = rw v at e in cc
-        starts Line e true v = let bad = rw v at e in cc
-        starts Words e false v =
+        starts : (g : Gap) → gap_after g b ≡ None → (w : Bool) → is_white b ≡ w → texts e (between g) (suc room) place (b ∷ bs) ≡ said (kept all limit (left g place (b ∷ bs))) end
+        starts Comment f w v = cc
+        starts Words f true v = let bad = rw v at f in cc
+        starts Line f true v = let bad = rw v at f in cc
+        starts Words f false v =
             first (between Words)
-            ∙ ap (λ o. texts (begins place b o) room (place + 1) bs) e
+            ∙ ap (λ o. texts e (begins place b o) room (place + 1) bs) f
             ∙ later.token place b [] refl
-            ∙ ap (λ l. said (kept whole limit l) (ending whole n)) (sym (step-begin Words place b bs (dark-no_feed b v) v e))
-        starts Line e false v =
+            ∙ ap (λ l. said (kept all limit l) end) (sym (step-begin Words place b bs (dark-no_feed b v) v f))
+        starts Line f false v =
             first (between Line)
-            ∙ ap (λ o. texts (begins place b o) room (place + 1) bs) e
+            ∙ ap (λ o. texts e (begins place b o) room (place + 1) bs) f
             ∙ later.token place b [] refl
-            ∙ ap (λ l. said (kept whole limit l) (ending whole n)) (sym (step-begin Line place b bs (dark-no_feed b v) v e))
+            ∙ ap (λ l. said (kept all limit l) end) (sym (step-begin Line place b bs (dark-no_feed b v) v f))
 
     token : (p c : ℕ) (ws : List ℕ) → p + length (c ∷ ws) ≡ place → (w : Bool) → is_white b ≡ w
-        → texts (within p (lexeme_after (begun c) ws)) (suc room) place (b ∷ bs) ≡ said (kept whole limit (left_within p (c ∷ ws) place (b ∷ bs))) (ending whole n)
+        → texts e (within p (lexeme_after (begun c) ws)) (suc room) place (b ∷ bs) ≡ said (kept all limit (left_within p (c ∷ ws) place (b ∷ bs))) end
     token p c ws len true v =
-        let told_it : told (within p (lexeme_after (begun c) ws)) b (texts (moved (within p (lexeme_after (begun c) ws)) b place) room (place + 1) bs)
-        ≡ judged p (word_of (lexeme_after (begun c) ws)) (texts (between (gap_at (Some b))) room (place + 1) bs) = rw v refl in
-        let these : kept whole limit (left_within p (c ∷ ws) place (b ∷ bs)) ≡ record { place = p; bytes = c ∷ ws } ∷ kept whole limit (left (gap_at (Some b)) (place + 1) bs) =
-        ap (kept whole limit) (within-white p (c ∷ ws) place b bs v) ∙ kept-first whole limit (record { place = p; bytes = c ∷ ws }) _ (omega arith) in
+        let told_it : told (within p (lexeme_after (begun c) ws)) b (texts e (moved (within p (lexeme_after (begun c) ws)) b place) room (place + 1) bs)
+        ≡ judged p (word_of (lexeme_after (begun c) ws)) (texts e (between (gap_at (Some b))) room (place + 1) bs) = rw v refl in
+        let these : kept all limit (left_within p (c ∷ ws) place (b ∷ bs)) ≡ record { place = p; bytes = c ∷ ws } ∷ kept all limit (left (gap_at (Some b)) (place + 1) bs) =
+        ap (kept all limit) (within-white p (c ∷ ws) place b bs v) ∙ kept-first all limit (record { place = p; bytes = c ∷ ws }) _ (omega arith) in
         first (within p (lexeme_after (begun c) ws)) ∙ told_it
-        ∙ ap (λ w. judged p w (texts (between (gap_at (Some b))) room (place + 1) bs)) (said-lexeme c ws)
+        ∙ ap (λ w. judged p w (texts e (between (gap_at (Some b))) room (place + 1) bs)) (said-lexeme c ws)
         ∙ ap (λ t. judged p (said_by (c ∷ ws)) t) (later.gap (gap_at (Some b)))
-        ∙ ap (λ l. said l (ending whole n)) (sym these)
+        ∙ ap (λ l. said l end) (sym these)
     token p c ws len false v =
-        let told_it : told (within p (lexeme_after (begun c) ws)) b (texts (moved (within p (lexeme_after (begun c) ws)) b place) room (place + 1) bs)
-        ≡ texts (within p (extended (lexeme_after (begun c) ws) b)) room (place + 1) bs = rw v refl in
+        let told_it : told (within p (lexeme_after (begun c) ws)) b (texts e (moved (within p (lexeme_after (begun c) ws)) b place) room (place + 1) bs)
+        ≡ texts e (within p (extended (lexeme_after (begun c) ws) b)) room (place + 1) bs = rw v refl in
         first (within p (lexeme_after (begun c) ws)) ∙ told_it
-        ∙ ap (λ (l : Lexeme). texts (within p l) room (place + 1) bs) (sym (lexeme-more (begun c) ws b))
+        ∙ ap (λ (l : Lexeme). texts e (within p l) room (place + 1) bs) (sym (lexeme-more (begun c) ws b))
         ∙ later.token p c (ws ++ b ∷ []) (omega (arith, length-append ws (b ∷ [])))
-        ∙ ap (λ l. said (kept whole limit l) (ending whole n)) (sym (within-dark p (c ∷ ws) place b bs (dark-no_feed b v) v))
+        ∙ ap (λ l. said (kept all limit l) end) (sym (within-dark p (c ∷ ws) place b bs (dark-no_feed b v) v))
 
-law : (bs : List ℕ) (room place limit n : ℕ) (whole : Bool) → place + room ≡ limit → place + length bs ≡ n → nat_le (length bs) room ≡ whole → Law bs room place limit n whole
-law [] room place limit n whole lim tot fits = law-nil room place limit n whole (omega arith) (grind (arith, nat_tests))
-law (b ∷ bs) zero place limit n whole lim tot fits = law-over b bs place limit n whole (omega arith) (grind (arith, nat_tests))
-law (b ∷ bs) (suc room) place limit n whole lim tot fits =
-    law-cons b bs room place limit n whole lim (law bs room (place + 1) limit n whole (omega arith) (omega arith) (shorter (length bs) room whole fits))
-  where
-    shorter : (a r : ℕ) (w : Bool) → nat_le (suc a) (suc r) ≡ w → nat_le a r ≡ w
-    shorter a r true h = grind (arith, nat_tests)
-    shorter a r false h = grind (arith, nat_tests)
+-- a file that ends
+law-ended : (bs : List ℕ) (room place : ℕ) → length bs ≤ room → Law ended bs room place (place + suc (length bs)) true (finished (place + length bs))
+law-ended [] room place fits = let e : place + 0 ≡ place = omega arith in rw e (law-end room place (place + 1))
+law-ended (b ∷ bs) zero place fits = absurd (omega arith)
+law-ended (b ∷ bs) (suc room) place fits =
+    let limit : place + 1 + suc (length bs) ≡ place + suc (suc (length bs)) = omega arith in
+    let end : place + 1 + length bs ≡ place + suc (length bs) = omega arith in
+    law-cons ended b bs room place (place + suc (suc (length bs))) true (finished (place + suc (length bs))) (omega arith) (rw (limit, end) at (law-ended bs room (place + 1) (omega arith)))
+
+-- a file that is longer than the limit
+law-over : (e : Ending) (bs : List ℕ) (room place limit : ℕ) → place + room ≡ limit → room < length bs → Law e bs room place limit false over
+law-over e [] room place limit lim past = absurd (omega arith)
+law-over e (b ∷ bs) zero place limit lim past = law-stop e (b ∷ bs) zero place limit over (omega arith) (λ m. texts-over e m place (b ∷ bs) (λ h. cc))
+law-over e (b ∷ bs) (suc room) place limit lim past = law-cons e b bs room place limit false over (omega arith) (law-over e bs room (place + 1) limit (omega arith) (omega arith))
+
+-- a file of which a read fails
+law-failed : (bs : List ℕ) (room place limit : ℕ) → place + length bs ≡ limit → length bs ≤ room → Law failed bs room place limit false lost
+law-failed [] room place limit lim fits = law-stop failed [] room place limit lost (omega arith) (λ m. texts-nil failed m room place)
+law-failed (b ∷ bs) zero place limit lim fits = absurd (omega arith)
+law-failed (b ∷ bs) (suc room) place limit lim fits = law-cons failed b bs room place limit false lost (omega arith) (law-failed bs room (place + 1) limit (omega arith) (omega arith))
 
 -- behind a byte, the machine gives the tokens of what is left
-pub machine_from : (before : Option ℕ) (room place : ℕ) (text : List ℕ) → texts (between (gap_at before)) room place text ≡ spelled_from before room place text
+pub machine_from : (e : Ending) (before : Option ℕ) (room place : ℕ) (text : List ℕ) → texts e (between (gap_at before)) room place text ≡ spelled_from e before room place text
 unfolding spelled_from
-machine_from before room place text = go (nat_le (length text) room) refl
+machine_from e before room place text = go e (nat_le (length text) room) refl
   where
     tokens_are : (before : Option ℕ) → left (gap_at before) place text ≡ tokens_from (begins_line before) place text
     tokens_are None = refl
@@ -367,10 +377,11 @@ machine_from before room place text = go (nat_le (length text) room) refl
         at true t = rw t refl
         at false t = rw t refl
 
-    go : (whole : Bool) → nat_le (length text) room ≡ whole → texts (between (gap_at before)) room place text ≡ cond (nat_le (length text) room) (said (tokens_from (begins_line before) place text) (finished (place + length text))) (said (kept_below (place + room) (tokens_from (begins_line before) place text)) over)
-    go true w = (law text room place (place + room) (place + length text) true refl refl w).gap (gap_at before) ∙ rw (w, tokens_are before) refl
-    go false w = (law text room place (place + room) (place + length text) false refl refl w).gap (gap_at before) ∙ rw (w, tokens_are before) refl
+    go : (e : Ending) (fits : Bool) → nat_le (length text) room ≡ fits → texts e (between (gap_at before)) room place text
+        ≡ cond (nat_le (length text) room) (all_said e (place + length text) (tokens_from (begins_line before) place text)) (said (kept_below (place + room) (tokens_from (begins_line before) place text)) over)
+    go ended true w = let le : length text ≤ room = grind (arith, nat_tests) in (law-ended text room place le).gap (gap_at before) ∙ rw (w, tokens_are before) refl
+    go failed true w = let le : length text ≤ room = grind (arith, nat_tests) in (law-failed text room place (place + length text) refl le).gap (gap_at before) ∙ rw (w, tokens_are before) refl
+    go e false w = let lt : room < length text = grind (arith, nat_tests) in (law-over e text room place (place + room) refl lt).gap (gap_at before) ∙ rw (w, tokens_are before) refl
 
--- so it gives the tokens of every text
-pub texts-spelled : (limit : ℕ) (text : List ℕ) → texts (between Line) limit 0 text ≡ spelled limit text
-texts-spelled limit text = machine_from None limit 0 text
+pub machine_left_is : (r : Reader) (c : Contents) → machine_left r c ≡ text_left r c
+machine_left_is r c = machine_from c.ending r.last (r.limit - r.taken) r.taken (remaining r c)

@@ -1,14 +1,19 @@
 -- A value that stands whole in some bytes, from its last byte.
 use Rattle.std.proofs.Common.{◌≡◌, ◌∙◌, ℕ, suc, ◌+◌, ◌-◌, ◌*◌, ◌<◌, ◌≤◌, ◌^◌, length-take, refl, sym, ap, subst, List, [], ◌∷◌, ◌++◌, length, take, drop, get_or, arith, ◌/◌, ◌%◌, ◌==◌, Bool, true, false, Ok, length-append}
-use Rattle.std.specs.Prelude.{nat_lt, pos, negsuc}
+use Rattle.std.specs.Prelude.{nat_lt, ◌&&◌}
 use Rattle.sr_desk.specs.Reader.{Reader, buffered, skipped}
-use Rattle.sr_desk.proofs.ReaderLemmas.{skipped-remaining}
+use Rattle.sr_base.specs.Contents.{Ending, Contents}
+use Rattle.sr_desk.specs.Next.{remaining}
+use Rattle.sr_model.specs.Words.{signed, number_word}
+use Rattle.sr_model.specs.BinaryTokens.{value_word}
+use Rattle.sr_model.proofs.Soundness.{by_test}
+use Rattle.sr_scan.proofs.ReadLemmas.{skips_remaining}
 use Rattle.sr_model.specs.declared.tokens.Word.{Word}
 use Rattle.sr_model.specs.declared.tokens.Word.TheVariants as word
 use Rattle.sr_scan.specs.Front.{is_end}
 use Rattle.sr_scan.proofs.HandLemmas.{advances}
 use Rattle.std.proofs.Math.Seq.{drop-cons}
-use Rattle.sr_scan.specs.Binary.{value, plus, value_at, value_word, number_by, number_at, token_at}
+use Rattle.sr_scan.specs.Binary.{value, plus, value_at, number_by, number_at, token_at}
 use Rattle.sr_scan.specs.BinaryLeft.{EndsAt, LeadsValue, TakesNumber}
 use Rattle.sr_scan.proofs.BinaryLemmas.{value_at-small, value_at-large}
 
@@ -54,18 +59,19 @@ leads-value bytes last at v ends none small spelled =
     let all : last + 1 - 0 ≡ last + 1 = omega arith in
     record { some = omega arith; within = omega arith; small = small; spells = λ room rest fits. rw all at (whole room rest (omega (arith, simp length-take at fits))) }
 
-pub token-number : (room place : ℕ) (bytes : List ℕ) → 0 < length bytes → token_at false room place bytes ≡ number_at place (place + length bytes) (value_at 10 room bytes)
-token-number room place [] some = absurd (omega arith)
-token-number room place (b ∷ bs) some = refl
+pub token-number : (f : Ending) (room place : ℕ) (bytes : List ℕ) → 0 < length bytes → token_at f false room place bytes ≡ number_at f place (place + length bytes) (value_at 10 room bytes)
+token-number f room place [] some = absurd (omega arith)
+token-number f room place (b ∷ bs) some = refl
 
 pub value-not_end : (v : ℕ) (w : Word) → value_word v ≡ Ok w → is_end w ≡ false
-value-not_end v w h = go (nat_lt v (2 ^ 64)) refl (v == 1) refl (v % 2 == 0) refl
+value-not_end v w h = at (v % 2 == 1) (v / 2) h
   where
-    go : (a : Bool) → nat_lt v (2 ^ 64) ≡ a → (b : Bool) → (v == 1) ≡ b → (c : Bool) → (v % 2 == 0) ≡ c → is_end w ≡ false
-    go false e b f c g = let bad = rw e at h in cc
-    go true e true f c g = let bad = rw (e, f) at h in cc
-    go true e false f true g = let is : word.Number (pos (v / 2)) ≡ w = cc (rw (e, f, g) at h) in rw (← is) refl
-    go true e false f false g = let is : word.Number (negsuc (v / 2 - 1)) ≡ w = cc (rw (e, f, g) at h) in rw (← is) refl
+    at : (negative : Bool) (size : ℕ) → number_word negative size ≡ Ok w → is_end w ≡ false
+    at negative size e = by_test (negative && size == 0)
+        (λ z. let bad = rw z at e in absurd cc)
+        (λ z. by_test (nat_lt size (2 ^ 63))
+        (λ t. let says = rw (z, t) at e in let is : word.Number (signed negative size) ≡ w = cc says in rw (← is) refl)
+        (λ t. let bad = rw (z, t) at e in absurd cc))
 
 size_of : (xs : List ℕ) (n : ℕ) → n ≤ length xs → length (take n xs) ≡ n
 size_of xs n le = simp length-take (omega arith)
@@ -79,22 +85,20 @@ takes_number r new bytes len v place w is leads says at now =
     takes : LeadsValue (buffered r) len v → TakesNumber r (skipped r len) (record { place = r.taken; word = w })
     takes l =
         let some : 0 < len = l.some in
-        let within : len ≤ length (buffered r) = l.within in
-        let room : len ≤ r.limit - r.taken = omega (arith, simp length-take at within) in
-        let size : length (take len (buffered r)) ≡ len = size_of (buffered r) len within in
+        let fits : len ≤ length (buffered r) = l.within in
+        let room : len ≤ r.limit - r.taken = omega (arith, simp length-take at fits) in
+        let size : length (take len (buffered r)) ≡ len = size_of (buffered r) len fits in
         record {
-          same = record { slot = refl; limit = refl; later = omega arith };
+          skips = record { count = len; within = fits; same = refl };
           advances = advances r (skipped r len) w (value-not_end v w (sym says)) (omega arith);
-          gives = λ o all h.
-              let split = skipped-remaining r o len all within h in
-              let count : length all ≡ len + length split.0 = ap length split.1 ∙ length-append (take len (buffered r)) split.0 ∙ ap (λ (n : ℕ). n + length split.0) size in
-              let here : value_at 10 (r.limit - r.taken) all ≡ value v split.0 =
-              ap (value_at 10 (r.limit - r.taken)) split.1 ∙ l.spells (r.limit - r.taken) split.0 (omega (arith, size)) in
-              record {
-                rest = split.0;
-                token = token-number (r.limit - r.taken) r.taken all (omega arith) ∙ ap (number_at r.taken (r.taken + length all)) here
-                    ∙ ap (number_by r.taken split.0) (sym says);
-                left = split.2;
-                taken = omega arith;
-              };
+          gives = λ c more h.
+              let rest : List ℕ = remaining (skipped r len) c in
+              let split = skips_remaining r c more len fits h in
+              let count : length (remaining r c) ≡ len + length rest = ap length split ∙ length-append (take len (buffered r)) rest ∙ ap (λ (n : ℕ). n + length rest) size in
+              let here : value_at 10 (r.limit - r.taken) (remaining r c) ≡ value v rest =
+              ap (value_at 10 (r.limit - r.taken)) split ∙ l.spells (r.limit - r.taken) rest (omega (arith, size)) in (
+                token-number c.ending (r.limit - r.taken) r.taken (remaining r c) (omega arith) ∙ ap (number_at c.ending r.taken (r.taken + length (remaining r c))) here
+                    ∙ ap (number_by r.taken rest) (sym says),
+                omega arith,
+              );
         }

@@ -1,75 +1,91 @@
--- The tokens that a reader has still to give.
-use Rattle.std.specs.Prelude.{◌≡◌, ℕ, ◌-◌, ◌<◌, Option, Some, None, Result, Ok, Err, option_map}
-use Rattle.sr_desk.specs.Outside.{Outside, Rose}
+-- The tokens that are left to a reader, and what is read of them.
+use Rattle.std.specs.Prelude.{◌≡◌, ℕ, ◌-◌, ◌<◌, Bool, true, false, Result, Ok, Err}
+use Rattle.sr_base.specs.Contents.{Contents}
+use Rattle.sr_base.specs.declared.names.Form.{Form}
+use Rattle.sr_base.specs.declared.names.Form.TheVariants as form
+use Rattle.sr_base.specs.declared.names.TextKind.{TextKind}
+use Rattle.sr_base.specs.declared.names.TextKind.TheVariants.{BadWord, Unended}
+use Rattle.sr_base.specs.declared.names.LimitKind.TheVariants as limit
+use Rattle.sr_base.specs.declared.names.InputError.{InputError}
+use Rattle.sr_base.specs.declared.names.InputError.TheVariants.{Text, Limit, Source, NoMemory}
 use Rattle.sr_desk.specs.Reader.{Reader}
-use Rattle.sr_desk.specs.Next.{remaining, Keeps, IsSameReader}
-use Rattle.sr_desk.specs.declared.reader.ReadStop.{ReadStop}
-use Rattle.sr_desk.specs.declared.reader.ReadStop.TheVariants as stop
-use Rattle.sr_scan.specs.declared.lexeme.Lexeme.{Lexeme}
+use Rattle.sr_desk.specs.Next.{remaining}
+use Rattle.sr_desk.specs.declared.reader.ReadError.{ReadError}
+use Rattle.sr_desk.specs.declared.reader.ReadError.TheVariants as read_error
+use Rattle.sr_model.specs.declared.tokens.Token.{Token}
 use Rattle.sr_model.specs.declared.tokens.Word.{Word}
 use Rattle.sr_model.specs.declared.tokens.Word.TheVariants.{End}
-use Rattle.sr_model.specs.declared.tokens.Token.{Token}
-use Rattle.sr_scan.specs.declared.token.ScanStop.{ScanStop}
-use Rattle.sr_scan.specs.declared.token.ScanStop.TheVariants.{Text, Fault, Limit}
-use Rattle.sr_scan.specs.Lexeme.{begun, word_of, gap_at}
-use Rattle.sr_model.specs.Tokens.{spelled_from}
-use Rattle.sr_model.specs.Texts.{Texts, finished, stopped, over, next, judged}
-use Rattle.sr_scan.specs.Machine.{Mode, between, within, texts}
+use Rattle.sr_model.specs.Tokens.{Tokens, finished, stopped, over, lost, next}
+use Rattle.sr_model.specs.TextTokens.{spelled_from}
+use Rattle.sr_model.specs.BinaryTokens.{binary_from}
+use Rattle.sr_model.specs.Reading.{Read, reads, misspells, passes, fails}
 
-abbrev pub texts_in : Mode → Reader → Outside → Option Texts
-texts_in m r o = option_map (texts m (r.limit - r.taken) r.taken) (remaining r o)
+-- what is left of a text of such contents
+abbrev pub text_left : Reader → Contents → Tokens
+text_left r c = spelled_from c.ending r.last (r.limit - r.taken) r.taken (remaining r c)
 
-abbrev pub machine_left : Reader → Outside → Option Texts
-machine_left r o = texts_in (between (gap_at r.last)) r o
+-- and of a binary file, where a step or a lemma has so many lists, and so many are open
+abbrev pub binary_left : ℕ → ℕ → Reader → Contents → Tokens
+binary_left lists open_lists r c = binary_from c.ending lists open_lists (r.limit - r.taken) r.taken (remaining r c)
 
--- the tokens that are left to a reader, where its bytes are told
-abbrev pub texts_left : Reader → Outside → Option Texts
-texts_left r o = option_map (spelled_from r.last (r.limit - r.taken) r.taken) (remaining r o)
+abbrev pub tokens_left : Form → ℕ → ℕ → Reader → Contents → Tokens
+tokens_left form.Text lists open_lists r c = text_left r c
+tokens_left form.Binary lists open_lists r c = binary_left lists open_lists r c
 
--- where tokens were told, they are these
-abbrev pub Are : Option Texts → Texts → Type 0
-Are old these = (all : Texts) → old ≡ Some all → all ≡ these
+-- an item begins where no list is open
+abbrev pub IsStart : Bool → ℕ → Type 0
+IsStart true open_lists = open_lists ≡ 0
+IsStart false open_lists = 0 < open_lists
 
--- the token stands first, and the others are left
-abbrev pub StandsFirst : Option Texts → Option Texts → ℕ → Word → Type 0
-StandsFirst old new place End = (all : Texts) → old ≡ Some all → (all ≡ finished place) × (new ≡ Some (finished place))
-StandsFirst old new place w = (all : Texts) → old ≡ Some all → (rest : Texts) × (all ≡ next (record { place = place; word = w }) rest) × (new ≡ Some rest)
+-- a read of the file failed
+abbrev pub is_source : InputError → Bool
+is_source Source = true
+is_source e = false
 
-abbrev pub GivesToken : Option Texts → Option Texts → Result Token ScanStop → Type 0
-GivesToken old new (Ok t) = StandsFirst old new t.place t.word
-GivesToken old new (Err (Text kind place)) = Are old (stopped kind place)
-GivesToken old new (Err Limit) = Are old over
-GivesToken old new (Err Fault) = Unit {0}
+abbrev pub is_fault : {T : Type 0} → Result T InputError → Bool
+is_fault (Ok x) = false
+is_fault (Err e) = is_source e
 
--- all up to the first byte of a token was passed over
-abbrev pub Begins : Reader → Reader → Outside → Outside → Result (Option ℕ) ReadStop → Type 0
-Begins old new before after (Ok (Some b)) = (0 < new.taken) × (new.limit - new.taken < old.limit - old.taken) × Keeps (machine_left old before) (texts_in (within (new.taken - 1) (begun b)) new after)
-Begins old new before after (Ok None) = Keeps (machine_left old before) (Some (finished new.taken)) × (machine_left new after ≡ Some (finished new.taken))
-Begins old new before after (Err stop.Limit) = Are (machine_left old before) over
-Begins old new before after (Err stop.Fault) = Unit {0}
+abbrev pub error_of : ReadError → InputError
+error_of read_error.Fault = Source
+error_of read_error.Limit = Limit limit.Bytes
+
+-- the error is what stands at the front; out of memory says nothing of the file
+abbrev pub Refuses : {A : Type 0} → Read A → InputError → Type 0
+Refuses read (Text kind place) = read ≡ misspells kind place
+Refuses read (Limit kind) = read ≡ passes kind
+Refuses read Source = read ≡ fails
+Refuses read NoMemory = Unit {0}
+
+-- what stood at the front was read, and these tokens are left; or it is no such thing
+abbrev pub Gives : {A : Type 0} → Read A → Tokens → Result A InputError → Type 0
+Gives read left (Ok x) = read ≡ reads x left
+Gives read left (Err e) = Refuses read e
+
+-- a token before others; behind the end there is nothing
+abbrev pub front_word : ℕ → Word → Tokens → Tokens
+front_word place End rest = finished place
+front_word place w rest = next (record { place = place; word = w }) rest
+
+-- no token stands at the front
+abbrev pub RefusesToken : Tokens → InputError → Type 0
+RefusesToken all (Text kind place) = all ≡ stopped kind place
+RefusesToken all (Limit limit.Bytes) = all ≡ over
+RefusesToken all (Limit kind) = ⊥
+RefusesToken all Source = all ≡ lost
+RefusesToken all NoMemory = ⊥
+
+-- the first of the tokens was read, and the others are left; the end is left then
+abbrev pub GivesToken : Tokens → Tokens → Result Token InputError → Type 0
+GivesToken all left (Ok t) = (all ≡ front_word t.place t.word left) × (t.word ≡ End → left ≡ finished t.place)
+GivesToken all left (Err e) = RefusesToken all e
 
 -- a token that isn't the end takes a byte, so less room is left below the limit
 abbrev pub Advances : Reader → Reader → Word → Type 0
 Advances old new End = Unit {0}
 Advances old new w = new.limit - new.taken < old.limit - old.taken
 
--- a token was taken of the bytes at hand
-pub record TakesToken (old new : Reader) (t : Token) : Type 0 where
-  pub same : IsSameReader old new
-  pub advances : Advances old new t.word
-  pub left : (o : Outside) → StandsFirst (machine_left old o) (machine_left new o) t.place t.word
-
--- a token was read to its end
-abbrev pub Finishes : Lexeme → Reader → Reader → Outside → Outside → Result Lexeme ReadStop → Type 0
-Finishes l old new before after (Ok whole) = (place : ℕ) (all : Texts) → texts_in (within place l) old before ≡ Some all
-    → (rest : Texts) × (all ≡ judged place (word_of whole) rest) × (machine_left new after ≡ Some rest)
-Finishes l old new before after (Err stop.Limit) = (place : ℕ) → Are (texts_in (within place l) old before) over
-Finishes l old new before after (Err stop.Fault) = Unit {0}
-
-abbrev pub HasScanCause : {T : Type 0} → ℕ → Outside → Outside → Result T ScanStop → Type 0
-HasScanCause n old new (Err Fault) = Rose (old.slot n).faults (new.slot n).faults
-HasScanCause n old new _ = Unit {0}
-
-abbrev pub stop_of : ReadStop → ScanStop
-stop_of stop.Fault = Fault
-stop_of stop.Limit = Limit
+-- the fault of a token inside an item that isn't what is asked for
+abbrev pub misplaced : Word → TextKind
+misplaced End = Unended
+misplaced w = BadWord

@@ -1,21 +1,20 @@
 // Tokens of binary files.
-ghost use Rattle.std.specs.Prelude.{◌≡◌, ◌-◌, ◌<◌, ◌≤◌, ◌^◌, true, false, IsTrue, IfOk, IfSome, IfNone};
-ghost use Rattle.sr_desk.specs.Outside.{OnlyReads};
-ghost use Rattle.sr_desk.specs.Next.{IsSameReader};
-ghost use Rattle.sr_scan.specs.Binary.{value_word};
-ghost use Rattle.sr_scan.specs.BinaryLeft.{GivesValue, HasValueCause, GivesBinary, GivesBinaryToken, TakesNumber, answer_of, item_answer, end_answer};
-ghost use Rattle.sr_scan.specs.Left.{HasScanCause, Advances};
+ghost use Rattle.std.specs.Prelude.{◌≡◌, ℕ, ◌-◌, ◌<◌, ◌≤◌, ◌^◌, true, false, IfOk, IfSome, IfNone};
+ghost use Rattle.sr_base.specs.declared.names.Form.TheVariants.{Binary};
+ghost use Rattle.sr_desk.specs.Next.{Stands, Reads, ForContents};
+ghost use Rattle.sr_model.specs.BinaryTokens.{value_word};
+ghost use Rattle.sr_scan.specs.BinaryLeft.{GivesValue, is_value_fault, GivesBinary, GivesFront, TakesNumber, answer_of, item_answer, end_answer};
+ghost use Rattle.sr_scan.specs.Left.{is_fault, IsStart, Advances};
 
-use crate::ScanStop;
 use crate::text::stopped;
 use crate::value::value_front;
-use sr_base::TextKind;
-use sr_desk::{ByteReader, Desk, ReadStop};
+use sr_base::{InputError, LimitKind, TextKind};
+use sr_desk::{ByteReader, Desk, ReadError};
 use sr_model::{Token, Word};
 
 /// Why no value stands here.
 #[derive(Clone, Copy, Debug, PartialEq, Eq)]
-pub(crate) enum ValueStop {
+pub(crate) enum ValueError {
     Long,
     Ends,
     Limit,
@@ -23,23 +22,21 @@ pub(crate) enum ValueStop {
 }
 
 /// The value of the next bytes, at most so many, read one by one.
-fn read_value<D: Desk>(reader: &mut ByteReader, desk: &mut D, most: u8) -> Result<u128, ValueStop>
-    requires reads { IsTrue ((D.outside desk.old).slot reader.old.slot).reads }
+fn read_value<D: Desk>(reader: &mut ByteReader, desk: &mut D, most: u8) -> Result<u128, ValueError>
+    requires stands { Stands reader.old (D.outside desk.old) }
     requires ten { most ≤ 10 }
-    ensures value { GivesValue most reader.old reader.new (D.outside desk.old) (D.outside desk.new) result }
+    ensures value { ForContents reader.new (D.outside desk.new) (λ c. GivesValue most reader.old reader.new c result) }
     ensures bound { IfOk result (λ v. v < 128 ^ most) }
     ensures advances { IfOk result (λ _. reader.new.limit - reader.new.taken < reader.old.limit - reader.old.taken) }
-    ensures same { IsSameReader reader.old reader.new }
-    ensures only { OnlyReads reader.old.slot (D.outside desk.old) (D.outside desk.new) }
-    ensures cause { HasValueCause reader.old.slot (D.outside desk.old) (D.outside desk.new) result }
+    ensures reads { Reads reader.old reader.new (D.outside desk.old) (D.outside desk.new) (is_value_fault result) }
 {
     if most == 0 {
-        return Err(ValueStop::Long);
+        return Err(ValueError::Long);
     }
     match reader.next(desk) {
-        Err(ReadStop::Fault) => Err(ValueStop::Fault),
-        Err(ReadStop::Limit) => Err(ValueStop::Limit),
-        Ok(None) => Err(ValueStop::Ends),
+        Err(ReadError::Fault) => Err(ValueError::Fault),
+        Err(ReadError::Limit) => Err(ValueError::Limit),
+        Ok(None) => Err(ValueError::Ends),
         Ok(Some(byte)) => {
             if byte < 128 {
                 return Ok(u128::from(byte));
@@ -68,47 +65,45 @@ fn word_of_value(value: u64) -> Result<Word, TextKind>
 }
 
 /// The token that a value at a place is.
-fn number_token(value: u128, place: u64) -> Result<Token, ScanStop>
+fn number_token(value: u128, place: u64) -> Result<Token, InputError>
     ensures { result ≡ answer_of place (value_word value) }
 {
     if value >= 1 << 64 {
-        return Err(ScanStop::Text {
+        return Err(InputError::Text {
             kind: TextKind::TooWide,
             place,
         });
     }
     match word_of_value(value as u64) {
         Ok(word) => Ok(Token { place, word }),
-        Err(kind) => Err(ScanStop::Text { kind, place }),
+        Err(kind) => Err(InputError::Text { kind, place }),
     }
 }
 
 /// The next number, read byte by byte.
 #[cold]
 #[inline(never)]
-fn number_item<D: Desk>(reader: &mut ByteReader, desk: &mut D) -> Result<Token, ScanStop>
-    requires { IsTrue ((D.outside desk.old).slot reader.old.slot).reads }
+fn number_item<D: Desk>(reader: &mut ByteReader, desk: &mut D) -> Result<Token, InputError>
+    requires { Stands reader.old (D.outside desk.old) }
     ensures advances { IfOk result (λ t. Advances reader.old reader.new t.word) }
-    ensures token { GivesBinary false reader.old reader.new (D.outside desk.old) (D.outside desk.new) result }
-    ensures same { IsSameReader reader.old reader.new }
-    ensures only { OnlyReads reader.old.slot (D.outside desk.old) (D.outside desk.new) }
-    ensures cause { HasScanCause reader.old.slot (D.outside desk.old) (D.outside desk.new) result }
+    ensures token { ForContents reader.new (D.outside desk.new) (λ c. GivesBinary false reader.old reader.new c result) }
+    ensures reads { Reads reader.old reader.new (D.outside desk.old) (D.outside desk.new) (is_fault result) }
 {
     let place = reader.place();
     match read_value(reader, desk, 10) {
         Ok(value) => number_token(value, place),
-        Err(ValueStop::Fault) => Err(ScanStop::Fault),
-        Err(ValueStop::Limit) => Err(ScanStop::Limit),
-        Err(ValueStop::Long) => Err(ScanStop::Text {
+        Err(ValueError::Fault) => Err(InputError::Source),
+        Err(ValueError::Limit) => Err(InputError::Limit(LimitKind::Bytes)),
+        Err(ValueError::Long) => Err(InputError::Text {
             kind: TextKind::TooWide,
             place,
         }),
-        Err(ValueStop::Ends) => ended(place, reader.place()),
+        Err(ValueError::Ends) => ended(place, reader.place()),
     }
 }
 
 /// Where the file ends behind the bytes from a place on, of which there may be none.
-fn ended(place: u64, end: u64) -> Result<Token, ScanStop>
+fn ended(place: u64, end: u64) -> Result<Token, InputError>
     ensures { result ≡ end_answer place end }
 {
     if place == end {
@@ -117,7 +112,7 @@ fn ended(place: u64, end: u64) -> Result<Token, ScanStop>
             word: Word::End,
         });
     }
-    Err(ScanStop::Text {
+    Err(InputError::Text {
         kind: TextKind::Unended,
         place: end,
     })
@@ -139,7 +134,7 @@ fn number_at_hand(reader: &mut ByteReader) -> Option<Token>
 }
 
 /// What the first byte of an item says.
-fn item_token(byte: u8, place: u64) -> Result<Token, ScanStop>
+fn item_token(byte: u8, place: u64) -> Result<Token, InputError>
     ensures { result ≡ item_answer byte place }
 {
     match byte {
@@ -151,7 +146,7 @@ fn item_token(byte: u8, place: u64) -> Result<Token, ScanStop>
             place,
             word: Word::Del,
         }),
-        _ => Err(ScanStop::Text {
+        _ => Err(InputError::Text {
             kind: TextKind::BadWord,
             place,
         }),
@@ -160,13 +155,11 @@ fn item_token(byte: u8, place: u64) -> Result<Token, ScanStop>
 
 /// The first byte of an item, or the end.
 #[inline(always)]
-fn item_start<D: Desk>(reader: &mut ByteReader, desk: &mut D) -> Result<Token, ScanStop>
-    requires { IsTrue ((D.outside desk.old).slot reader.old.slot).reads }
+fn item_start<D: Desk>(reader: &mut ByteReader, desk: &mut D) -> Result<Token, InputError>
+    requires { Stands reader.old (D.outside desk.old) }
     ensures advances { IfOk result (λ t. Advances reader.old reader.new t.word) }
-    ensures token { GivesBinary true reader.old reader.new (D.outside desk.old) (D.outside desk.new) result }
-    ensures same { IsSameReader reader.old reader.new }
-    ensures only { OnlyReads reader.old.slot (D.outside desk.old) (D.outside desk.new) }
-    ensures cause { HasScanCause reader.old.slot (D.outside desk.old) (D.outside desk.new) result }
+    ensures token { ForContents reader.new (D.outside desk.new) (λ c. GivesBinary true reader.old reader.new c result) }
+    ensures reads { Reads reader.old reader.new (D.outside desk.old) (D.outside desk.new) (is_fault result) }
 {
     let place = reader.place();
     match reader.next(desk) {
@@ -188,24 +181,22 @@ fn item_start<D: Desk>(reader: &mut ByteReader, desk: &mut D) -> Result<Token, S
 ///
 /// # Errors
 ///
-/// [`ScanStop::Text`] with the place of the token: `BadWord` for another byte where an item begins,
+/// [`InputError::Text`] with the place of the token: `BadWord` for another byte where an item begins,
 /// `BadNumber` for the value 1, and `TooWide` for a value of more than 64 bits or a tenth byte with
 /// its top bit set. `Unended`, with the number of bytes of the file, where it ends inside a number.
-/// [`ScanStop::Limit`] exactly where a byte past the reader's limit is needed and there is one.
-/// [`ScanStop::Fault`] only where a read failed. After an error the reader isn't used again.
+/// [`InputError::Limit`] exactly where a byte past the reader's limit is needed and there is one.
+/// [`InputError::Source`] exactly where a read fails before the last byte of the token.
 #[inline(always)]
 pub fn binary_item<D: Desk>(
     reader: &mut ByteReader,
     desk: &mut D,
     at_start: bool,
-) -> Result<Token, ScanStop>
-    requires { IsTrue ((D.outside desk.old).slot reader.old.slot).reads }
+) -> Result<Token, InputError>
+    requires { Stands reader.old (D.outside desk.old) }
     ensures advances { IfOk result (λ t. Advances reader.old reader.new t.word) }
-    ensures token { GivesBinary at_start reader.old reader.new (D.outside desk.old) (D.outside desk.new) result }
-    ensures first { GivesBinaryToken at_start reader.old reader.new (D.outside desk.old) (D.outside desk.new) result }
-    ensures same { IsSameReader reader.old reader.new }
-    ensures only { OnlyReads reader.old.slot (D.outside desk.old) (D.outside desk.new) }
-    ensures cause { HasScanCause reader.old.slot (D.outside desk.old) (D.outside desk.new) result }
+    ensures token { (lists open_lists : ℕ) → IsStart at_start open_lists → ForContents reader.new (D.outside desk.new)
+        (λ c. GivesFront Binary lists open_lists reader.old reader.new c result) }
+    ensures reads { Reads reader.old reader.new (D.outside desk.old) (D.outside desk.new) (is_fault result) }
 {
     if at_start {
         return item_start(reader, desk);

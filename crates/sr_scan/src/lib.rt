@@ -3,21 +3,16 @@
 
 mod binary;
 mod front;
-mod laws;
 mod lexeme;
+mod next;
 mod text;
-mod token;
 mod value;
 mod write;
 
 pub use binary::binary_item;
 pub use front::{TextNumber, text_number};
-pub use laws::{
-    binary_numbers_read_again, machine_spells, spelling_is_shortest, text_numbers_read_again,
-    token_stands_first,
-};
+pub use next::{misplaced, next_token};
 pub use sr_model::{Token, Word};
 pub use text::text_item;
-pub use token::ScanStop;
 pub use value::{Value, short_value};
-pub use write::{put_number_binary, put_number_text};
+pub use write::{put_end, put_literal, put_literals, put_number, put_number_text};

@@ -2,31 +2,29 @@
 //
 // A number or `d` that is at hand with the byte that ends it is taken in one go. Whatever else is
 // read byte by byte by a small machine: a gap between tokens, and a token so far.
-ghost use Rattle.std.specs.Prelude.{◌≡◌, ◌<◌, ◌-◌, true, IsTrue, IfOk, IfSome, IfNone};
-ghost use Rattle.sr_desk.specs.Outside.{OnlyReads};
-ghost use Rattle.sr_desk.specs.Next.{HasFaultCause, IsSameReader};
-ghost use Rattle.sr_scan.specs.Machine.{within};
+ghost use Rattle.std.specs.Prelude.{◌≡◌, ◌<◌, ◌-◌, IfOk, IfSome, IfNone};
+ghost use Rattle.sr_desk.specs.Next.{Stands, Reads, ForContents};
 ghost use Rattle.sr_scan.specs.Lexeme.{begun};
-ghost use Rattle.sr_scan.specs.Left.{texts_in, texts_left, machine_left, stop_of, GivesToken, HasScanCause, Begins, Finishes, Advances, TakesToken};
+ghost use Rattle.sr_scan.specs.Machine.{within, texts_in, machine_left, Begins, TakesFirst, Finishes, TakesToken};
+ghost use Rattle.sr_scan.specs.Left.{text_left, error_of, is_fault, GivesToken, Advances};
 
-use crate::ScanStop;
 use crate::front::{blanks, front};
 use crate::lexeme::{Gap, Lexeme, is_white};
-use sr_desk::{ByteReader, Desk, ReadStop};
+use sr_base::{InputError, LimitKind};
+use sr_desk::{ByteReader, Desk, ReadError};
 use sr_model::{Token, Word};
 
 /// Passes over white space and comments, and takes the first byte of a token.
-fn begin<D: Desk>(reader: &mut ByteReader, desk: &mut D) -> Result<Option<u8>, ReadStop>
-    requires { IsTrue ((D.outside desk.old).slot reader.old.slot).reads }
-    ensures begins { Begins reader.old reader.new (D.outside desk.old) (D.outside desk.new) result }
-    ensures same { IsSameReader reader.old reader.new }
-    ensures only { OnlyReads reader.old.slot (D.outside desk.old) (D.outside desk.new) }
-    ensures cause { HasFaultCause reader.old.slot (D.outside desk.old) (D.outside desk.new) result }
+fn begin<D: Desk>(reader: &mut ByteReader, desk: &mut D) -> Result<Option<u8>, InputError>
+    requires { Stands reader.old (D.outside desk.old) }
+    ensures begins { ForContents reader.new (D.outside desk.new) (λ c. Begins reader.old reader.new c result) }
+    ensures takes { IfOk result (TakesFirst reader.old reader.new) }
+    ensures reads { Reads reader.old reader.new (D.outside desk.old) (D.outside desk.new) (is_fault result) }
 {
     let mut gap = Gap::at(reader.last());
     'gaps: loop {
         match reader.next(desk) {
-            Err(stop) => return Err(stop),
+            Err(stop) => return Err(stopped(stop)),
             Ok(None) => return Ok(None),
             Ok(Some(byte)) => match gap.after(byte) {
                 None => return Ok(Some(byte)),
@@ -37,17 +35,19 @@ fn begin<D: Desk>(reader: &mut ByteReader, desk: &mut D) -> Result<Option<u8>, R
 }
 
 /// Reads a token to its end.
-fn finish<D: Desk>(reader: &mut ByteReader, desk: &mut D, first: Lexeme) -> Result<Lexeme, ReadStop>
-    requires { IsTrue ((D.outside desk.old).slot reader.old.slot).reads }
-    ensures finishes { Finishes first reader.old reader.new (D.outside desk.old) (D.outside desk.new) result }
-    ensures same { IsSameReader reader.old reader.new }
-    ensures only { OnlyReads reader.old.slot (D.outside desk.old) (D.outside desk.new) }
-    ensures cause { HasFaultCause reader.old.slot (D.outside desk.old) (D.outside desk.new) result }
+fn finish<D: Desk>(
+    reader: &mut ByteReader,
+    desk: &mut D,
+    first: Lexeme,
+) -> Result<Lexeme, InputError>
+    requires { Stands reader.old (D.outside desk.old) }
+    ensures finishes { ForContents reader.new (D.outside desk.new) (λ c. Finishes first reader.old reader.new c result) }
+    ensures reads { Reads reader.old reader.new (D.outside desk.old) (D.outside desk.new) (is_fault result) }
 {
     let mut lexeme = first;
     'bytes: loop {
         match reader.next(desk) {
-            Err(stop) => return Err(stop),
+            Err(stop) => return Err(stopped(stop)),
             Ok(None) => return Ok(lexeme),
             Ok(Some(byte)) => {
                 if is_white(byte) {
@@ -59,30 +59,29 @@ fn finish<D: Desk>(reader: &mut ByteReader, desk: &mut D, first: Lexeme) -> Resu
     }
 }
 
-pub(crate) fn stopped(stop: ReadStop) -> ScanStop
-    ensures { result ≡ stop_of stop }
+pub(crate) fn stopped(stop: ReadError) -> InputError
+    ensures { result ≡ error_of stop }
 {
     match stop {
-        ReadStop::Fault => ScanStop::Fault,
-        ReadStop::Limit => ScanStop::Limit,
+        ReadError::Fault => InputError::Source,
+        ReadError::Limit => InputError::Limit(LimitKind::Bytes),
     }
 }
 
 /// Reads the rest of a token of which the first byte was taken.
-fn whole<D: Desk>(reader: &mut ByteReader, desk: &mut D, first: u8) -> Result<Token, ScanStop>
-    requires reads { IsTrue ((D.outside desk.old).slot reader.old.slot).reads }
+fn whole<D: Desk>(reader: &mut ByteReader, desk: &mut D, first: u8) -> Result<Token, InputError>
+    requires stands { Stands reader.old (D.outside desk.old) }
     requires taken { 0 < reader.old.taken }
-    ensures token { GivesToken (texts_in (within (reader.old.taken - 1) (begun first)) reader.old (D.outside desk.old)) (machine_left reader.new (D.outside desk.new)) result }
-    ensures same { IsSameReader reader.old reader.new }
-    ensures only { OnlyReads reader.old.slot (D.outside desk.old) (D.outside desk.new) }
-    ensures cause { HasScanCause reader.old.slot (D.outside desk.old) (D.outside desk.new) result }
+    ensures token { ForContents reader.new (D.outside desk.new)
+        (λ c. GivesToken (texts_in (within (reader.old.taken - 1) (begun first)) reader.old c) (machine_left reader.new c) result) }
+    ensures reads { Reads reader.old reader.new (D.outside desk.old) (D.outside desk.new) (is_fault result) }
 {
     let place = reader.place() - 1;
     match finish(reader, desk, Lexeme::begin(first)) {
-        Err(stop) => Err(stopped(stop)),
+        Err(error) => Err(error),
         Ok(lexeme) => match lexeme.word() {
             Ok(word) => Ok(Token { place, word }),
-            Err(kind) => Err(ScanStop::Text { kind, place }),
+            Err(kind) => Err(InputError::Text { kind, place }),
         },
     }
 }
@@ -90,16 +89,15 @@ fn whole<D: Desk>(reader: &mut ByteReader, desk: &mut D, first: u8) -> Result<To
 /// The next token, by the machine that reads byte by byte.
 #[cold]
 #[inline(never)]
-fn machine_item<D: Desk>(reader: &mut ByteReader, desk: &mut D) -> Result<Token, ScanStop>
-    requires { IsTrue ((D.outside desk.old).slot reader.old.slot).reads }
+fn machine_item<D: Desk>(reader: &mut ByteReader, desk: &mut D) -> Result<Token, InputError>
+    requires { Stands reader.old (D.outside desk.old) }
     ensures advances { IfOk result (λ t. Advances reader.old reader.new t.word) }
-    ensures token { GivesToken (machine_left reader.old (D.outside desk.old)) (machine_left reader.new (D.outside desk.new)) result }
-    ensures same { IsSameReader reader.old reader.new }
-    ensures only { OnlyReads reader.old.slot (D.outside desk.old) (D.outside desk.new) }
-    ensures cause { HasScanCause reader.old.slot (D.outside desk.old) (D.outside desk.new) result }
+    ensures token { ForContents reader.new (D.outside desk.new)
+        (λ c. GivesToken (machine_left reader.old c) (machine_left reader.new c) result) }
+    ensures reads { Reads reader.old reader.new (D.outside desk.old) (D.outside desk.new) (is_fault result) }
 {
     match begin(reader, desk) {
-        Err(stop) => Err(stopped(stop)),
+        Err(error) => Err(error),
         Ok(None) => Ok(Token {
             place: reader.place(),
             word: Word::End,
@@ -136,18 +134,16 @@ fn at_hand(reader: &mut ByteReader) -> Option<Token>
 ///
 /// # Errors
 ///
-/// [`ScanStop::Text`] with the place of the token: `BadNumber` for one that begins like a number and
-/// is none, as `-0`, and `TooWide` for a number of a size above 2^63 - 1. [`ScanStop::Limit`]
-/// exactly where a byte past the reader's limit is needed and there is one. [`ScanStop::Fault`] only
-/// where a read failed. After an error the reader isn't used again.
+/// [`InputError::Text`] with the place of the token: `BadNumber` for one that begins like a number and
+/// is none, as `-0`, and `TooWide` for a number of a size above 2^63 - 1. [`InputError::Limit`]
+/// exactly where a byte past the reader's limit is needed and there is one. [`InputError::Source`]
+/// exactly where a read fails before the byte that ends the token.
 #[inline(always)]
-pub fn text_item<D: Desk>(reader: &mut ByteReader, desk: &mut D) -> Result<Token, ScanStop>
-    requires { IsTrue ((D.outside desk.old).slot reader.old.slot).reads }
+pub fn text_item<D: Desk>(reader: &mut ByteReader, desk: &mut D) -> Result<Token, InputError>
+    requires { Stands reader.old (D.outside desk.old) }
     ensures advances { IfOk result (λ t. Advances reader.old reader.new t.word) }
-    ensures token { GivesToken (texts_left reader.old (D.outside desk.old)) (texts_left reader.new (D.outside desk.new)) result }
-    ensures same { IsSameReader reader.old reader.new }
-    ensures only { OnlyReads reader.old.slot (D.outside desk.old) (D.outside desk.new) }
-    ensures cause { HasScanCause reader.old.slot (D.outside desk.old) (D.outside desk.new) result }
+    ensures token { ForContents reader.new (D.outside desk.new) (λ c. GivesToken (text_left reader.old c) (text_left reader.new c) result) }
+    ensures reads { Reads reader.old reader.new (D.outside desk.old) (D.outside desk.new) (is_fault result) }
 {
     match at_hand(reader) {
         Some(token) => Ok(token),

@@ -10,16 +10,13 @@ use sr_base::{Clause, Lit, NoMemory};
 use std::alloc::Global;
 use std::marker::Model;
 
-/// The most literals of all clauses.
-const MOST_LITS: usize = u32::MAX as usize;
-
 /// A formula in conjunctive normal form: the number of variables that it may use, and its clauses,
 /// which have the numbers from 1 on.
 #[derive(Drop)]
 pub struct Formula {
     vars: u32,
     lits: Vec<Lit>,
-    ends: Vec<u32>,
+    ends: Vec<usize>,
 }
 
 impl Model for Formula {
@@ -66,13 +63,10 @@ impl Formula {
         ensures err { OnErr result (self.new ≡ self.old) }
     {
         let before = self.lits.len();
-        if before > MOST_LITS || lits.len() > MOST_LITS - before {
-            return Err(NoMemory);
-        }
         if self.lits.extend_from_slice(lits).is_err() {
             return Err(NoMemory);
         }
-        let end = (before + lits.len()) as u32;
+        let end = before + lits.len();
         if self.ends.push(end).is_err() {
             self.lits.truncate(before);
             return Err(NoMemory);
@@ -126,21 +120,21 @@ impl Formula {
 
 /// The piece at an index. It begins at the end of the one before it.
 #[inline]
-fn piece<'a>(lits: &'a [Lit], ends: &[u32], at: usize) -> &'a [Lit]
+fn piece<'a>(lits: &'a [Lit], ends: &[usize], at: usize) -> &'a [Lit]
     requires cut { AreEnds 0 ends.now (length lits.now) }
     requires index { at < length ends.now }
     ensures { result.now ≡ slice_range lits.now (start_at 0 ends.now at) (slice_index ends.now at) }
 {
-    let end = ends[at] as usize;
+    let end = ends[at];
     if at == 0 {
         return &lits[..end];
     }
-    let start = ends[at - 1] as usize;
+    let start = ends[at - 1];
     &lits[start..end]
 }
 
 /// Whether a piece is empty: it ends where the one before it does.
-fn has_empty_piece(ends: &[u32]) -> bool
+fn has_empty_piece(ends: &[usize]) -> bool
     ensures { result ≡ repeats_end 0 ends.now }
 {
     let mut start = 0;

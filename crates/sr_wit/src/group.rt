@@ -7,14 +7,11 @@ use sr_base::NoMemory;
 use std::alloc::Global;
 use std::marker::Model;
 
-/// The most hints before a group.
-const MOST_HINTS: usize = u32::MAX as usize;
-
 /// The number of a group's clause, and the place of its first hint.
 #[derive(Clone, Copy)]
 struct GroupStart {
     id: u32,
-    start: u32,
+    start: usize,
 }
 
 /// The groups of a step: each is the number of a clause, and the hints that refute what a witness leaves of it.
@@ -88,13 +85,7 @@ impl GroupList {
         ensures err { OnErr result (self.new ≡ self.old) }
     {
         let start = self.hints.len();
-        if start > MOST_HINTS {
-            return Err(NoMemory);
-        }
-        let group = GroupStart {
-            id,
-            start: start as u32,
-        };
+        let group = GroupStart { id, start };
         if self.starts.push(group).is_err() {
             return Err(NoMemory);
         }
@@ -128,12 +119,13 @@ fn id_at(starts: &[GroupStart], i: usize) -> u32
 fn hints_at<'a>(hints: &'a [u32], starts: &[GroupStart], i: usize) -> &'a [u32]
     requires starts { AreStarts starts.now (length hints.now) }
     requires index { i < length starts.now }
-    ensures { result.now ≡ slice_range hints.now (slice_index_or starts.now i (record { id = 0; start = 0 })).start (end_before (drop (i + 1) starts.now) (length hints.now)) }
+    ensures { result.now ≡ slice_range hints.now (slice_index_or starts.now i (record { id = 0; start = 0 })).start
+        (end_before (drop (i + 1) starts.now) (length hints.now)) }
 {
-    let start = starts[i].start as usize;
+    let start = starts[i].start;
     if i + 1 == starts.len() {
         return &hints[start..];
     }
-    let end = starts[i + 1].start as usize;
+    let end = starts[i + 1].start;
     &hints[start..end]
 }

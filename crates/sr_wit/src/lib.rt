@@ -3,7 +3,6 @@
 //! A substitution is seen as the witness that it writes, and answers as the substitution of that witness.
 #![tactic(auto)]
 
-mod fault;
 mod formula;
 mod group;
 mod item;
@@ -13,7 +12,6 @@ mod reduce;
 mod step;
 mod subst;
 
-pub use fault::InFault;
 pub use formula::Formula;
 pub use group::GroupList;
 pub use item::{ItemList, LsrItem, StepList};

@@ -7,7 +7,7 @@ ghost use Rattle.sr_model.specs.Substitution.{substitution, is_image, has_pair, 
 ghost use Rattle.sr_wit.specs.Reductions.{HasMet, HasStripped, IsLikeness, IsLikenessOfCodes};
 
 use crate::subst::Subst;
-use sr_base::{Clause, Lit, LitList, NoMemory, holds};
+use sr_base::{Clause, Lit, LitList, NoMemory, has};
 use sr_model::Image;
 use std::alloc::Global;
 
@@ -42,7 +42,7 @@ pub(crate) fn collect_images(
 ) -> Result<Reduced, NoMemory>
     ensures { IfOk result (λ r. HasMet (substitution subst.now) lits.now r out.new) }
 {
-    out.cut(0);
+    out.truncate(0);
     let mut touched = false;
     for l in lits {
         let image = subst.image(*l);
@@ -82,7 +82,7 @@ pub(crate) fn keep_distinct(alloc: Global, out: &mut LitList) -> Result<Reduced,
         Likeness::Paired => Ok(Reduced::Satisfied),
         Likeness::Repeated => {
             let distinct = Clause::from_lits(alloc, out.as_slice())?;
-            out.cut(0);
+            out.truncate(0);
             for l in distinct.lits() {
                 out.push(*l)?;
             }
@@ -108,10 +108,10 @@ fn likeness_by_pairs(lits: &[Lit]) -> Likeness
     let mut repeated = false;
     for (i, l) in lits.iter().enumerate() {
         let before = &lits[..i];
-        if holds(before, l.neg()) {
+        if has(before, l.neg()) {
             return Likeness::Paired;
         }
-        repeated = repeated || holds(before, *l);
+        repeated = repeated || has(before, *l);
     }
     if repeated {
         Likeness::Repeated

@@ -82,14 +82,6 @@ impl Step {
         &self.clause
     }
 
-    /// The clause, for the step.
-    pub fn into_clause(self) -> Clause
-        ensures { result ≡ self.clause }
-    {
-        let Step { clause, .. } = self;
-        clause
-    }
-
     /// The lists of the step, for the step. Its witness is let go.
     pub fn into_lists(self) -> StepLists
         ensures lits { result.lits ≡ self.clause }

@@ -196,7 +196,7 @@ impl Subst {
             other => other,
         };
         if reduced != Ok(Reduced::Left) {
-            out.cut(0);
+            out.truncate(0);
         }
         reduced
     }

@@ -5,6 +5,6 @@ use Rattle.sr_check.proofs.chains.assume.Given as goal
 
 abbrev pub invariant-loop-l : goal.invariant-loop-l
 invariant-loop-l l = record {
-  lits : l.marks.lits ≡ l.fn.marks.lits ++ compl (take l.l-index l.lits);
-  front : KeepsFront l.fn.marks l.marks;
+  lits : l.trail.lits ≡ l.fn.trail.lits ++ compl (take l.l-index l.lits);
+  front : KeepsFront l.fn.trail l.trail;
 }

@@ -6,7 +6,7 @@ use Rattle.sr_check.proofs.chains.follow.Given as goal
 
 abbrev pub invariant-loop-i : goal.invariant-loop-i
 invariant-loop-i l = record {
-  followed : IsFollowed l.strict l.live l.fn.marks.lits l.marks.lits l.hints (drop l.i l.hints);
-  front : KeepsFront l.fn.marks l.marks;
+  followed : IsFollowed l.strict l.live l.fn.trail.lits l.trail.lits l.hints (drop l.i l.hints);
+  front : KeepsFront l.fn.trail l.trail;
   ahead : option_copied l.ahead ≡ first_clause l.live (drop l.i l.hints);
 }

@@ -17,7 +17,7 @@ pub add_last-requires-clause-fits : goal.add_last-requires-clause-fits
 add_last-requires-clause-fits c =
     let is : c.clause-lits.result.now ≡ get_or c.args.formula.now.clauses c.loop-i.i c.clause-lits.result.now =
     c.clause-lits.ensures.value ∙ ap (λ k. get_or c.args.formula.now.clauses k []) (place c.loop-i.i) ∙ get_or_default c.args.formula.now.clauses c.loop-i.i [] c.clause-lits.result.now (omega arith) in
-    omega (arith, c.requires.fits, c.loop-i.invariant.most, added_small c.args.formula.now.clauses c.loop-i.i c.clause-lits.result.now c.loop-i.live.clauses c.loop-i.marks.room (omega arith) is c.loop-i.invariant.added)
+    omega (arith, c.requires.fits, c.loop-i.invariant.most, added_small c.args.formula.now.clauses c.loop-i.i c.clause-lits.result.now c.loop-i.live.clauses c.loop-i.trail.room (omega arith) is c.loop-i.invariant.added)
 
 pub loop-i-preserved : goal.loop-i-preserved
 loop-i-preserved c =
@@ -25,7 +25,7 @@ loop-i-preserved c =
     c.clause-lits.ensures.value ∙ ap (λ k. get_or c.args.formula.now.clauses k []) (place c.loop-i.i) ∙ get_or_default c.args.formula.now.clauses c.loop-i.i [] c.clause-lits.result.now (omega arith) in
     record {
       lits = c.in_ok-cover_all.ensures.lits ∙ c.loop-i.invariant.lits;
-      added = added_more c.args.formula.now.clauses c.loop-i.i c.clause-lits.result.now c.loop-i.live.clauses c.add_last.new.self.clauses c.loop-i.marks.room c.cover_all.new.marks.room (omega arith) is c.loop-i.invariant.added
+      added = added_more c.args.formula.now.clauses c.loop-i.i c.clause-lits.result.now c.loop-i.live.clauses c.add_last.new.self.clauses c.loop-i.trail.room c.cover_all.new.trail.room (omega arith) is c.loop-i.invariant.added
           (ap (λ (s : Stored). s.clauses) c.in_ok-add_last.ensures.ok) c.in_ok-cover_all.ensures.room c.in_ok-cover_all.ensures.ok;
       last = ap (λ (s : Stored). s.last) c.in_ok-add_last.ensures.ok;
       most = ap (λ (s : Stored). s.most) c.in_ok-add_last.ensures.ok ∙ c.loop-i.invariant.most;

@@ -5,8 +5,8 @@ use Rattle.sr_check.proofs.checker.add_clauses.Given as goal
 
 abbrev pub invariant-loop-i : goal.invariant-loop-i
 invariant-loop-i l = record {
-  lits : l.marks.lits ≡ l.fn.marks.lits;
-  added : IsAdded l.formula.clauses l.i l.live.clauses l.marks.room;
+  lits : l.trail.lits ≡ l.fn.trail.lits;
+  added : IsAdded l.formula.clauses l.i l.live.clauses l.trail.room;
   last : l.live.last ≡ l.i;
   most : l.live.most ≡ l.fn.live.most;
   used : l.live.used ≡ l.fn.live.used + cells_of (take l.i l.formula.clauses);

@@ -1,6 +1,6 @@
 use Rattle.std.proofs.Common.{◌≡◌, ℕ, drop, false}
 use Rattle.sr_model.specs.Assignment.{holds_number}
-use Rattle.sr_check.specs.Pages.{entry}
+use Rattle.sr_table.specs.Pages.{entry}
 use Rattle.sr_check.specs.Indexing.{numbers}
 use Rattle.sr_check.proofs.groups.forget.Given as goal
 

@@ -1,5 +1,5 @@
 use Rattle.std.proofs.Common.{◌++◌, take}
-use Rattle.sr_desk.proofs.CallLemmas.{OnlyWrites-trans, Grows-trans, sent_more, can_write-kept}
+use Rattle.sr_desk.proofs.CallLemmas.{OnlyWrites-trans, Sends-trans, sent_more, can_write-kept}
 use Rattle.sr_desk.proofs.put.put_all.Goals as goal
 
 pub loop-rest-preserved : goal.loop-rest-preserved
@@ -11,9 +11,9 @@ loop-rest-preserved g c =
       sent = (
         had.0 ++ take c.in-Ok.count c.loop-rest.rest.now,
         sent_more _ _ _ c.in-Ok.count had.1,
-        Grows-trans _ _ _ _ _ had.2 c.in-Ok.ensures.bytes.bytes,
+        Sends-trans had.2 c.in-Ok.ensures.bytes.sends,
       );
-      ended = λ h. c.write.ensures.ended;
+      finished = λ h. c.write.ensures.finished;
     }
 
 pub returns-in-Err-clause-only : goal.returns-in-Err-clause-only

@@ -1,19 +1,16 @@
 use Rattle.std.proofs.Common.{[]}
-use Rattle.std.proofs.lemmas.Result.{err_from_is_err_and}
+use Rattle.sr_base.specs.Contents.{Contents}
 use Rattle.sr_base.specs.declared.names.LimitKind.TheVariants as limit
 use Rattle.sr_model.specs.Lsr.{numbers_after}
-use Rattle.sr_lemma.specs.Left.{tokens_left}
+use Rattle.sr_scan.specs.Left.{tokens_left}
 use Rattle.sr_dsr.proofs.FrameLemmas.{frame_stops, frame_read}
 use Rattle.sr_dsr.proofs.lines.read_behind.Goals as goal
 
-pub returns-in_err-end-clause-frame : goal.returns-in_err-end-clause-frame
-returns-in_err-end-clause-frame g c =
-    let p = err_from_is_err_and c.from_residual.result c.from_residual.ensures.1 in
-    rw (p.1, p.2) (frame_stops c.args.kind (λ n all. numbers_after limit.Vars n [] all) c.vars.result c.args.limits.now.vars
-    (tokens_left c.args.form 1 1 c.args.reader.now (g.D.Desk.outside c.args.desk.now)) c.in_err-end.field-0.0 c.vars.ensures.value (c.in_err-end.ensures.literals 1 0))
+pub returns-in-Err-clause-frame : goal.returns-in-Err-clause-frame
+returns-in-Err-clause-frame g c = λ (k : Contents) h.
+    frame_stops c.args.kind (λ n. numbers_after limit.Vars n [] (tokens_left c.args.form 1 1 c.args.reader.now k)) c.vars.result c.args.limits.now.vars c.in-Err.error c.vars.ensures.value (c.in-Err.ensures.literals 1 0 k h)
 
-pub returns-clause-frame : goal.returns-clause-frame
-returns-clause-frame g c =
-    frame_read c.args.kind (λ n all. numbers_after limit.Vars n [] all) c.vars.result c.args.limits.now.vars
-    (tokens_left c.args.form 1 1 c.args.reader.now (g.D.Desk.outside c.args.desk.now)) (tokens_left c.args.form 1 0 c.read_all_literals.new.reader (g.D.Desk.outside c.read_all_literals.new.desk))
-    c.read_all_literals.new.lits c.in_ok-end.end c.vars.ensures.value c.in_ok-end.ensures.named (c.in_ok-end.ensures.literals 1 0)
+pub returns-in-Ok-clause-frame : goal.returns-in-Ok-clause-frame
+returns-in-Ok-clause-frame g c = λ (k : Contents) h.
+    frame_read c.args.kind (λ n. numbers_after limit.Vars n [] (tokens_left c.args.form 1 1 c.args.reader.now k)) c.vars.result c.args.limits.now.vars (tokens_left c.args.form 1 0 c.read_all_literals.new.reader k)
+    c.read_all_literals.new.lits c.in-Ok.end c.vars.ensures.value c.in-Ok.ensures.named (c.in-Ok.ensures.literals 1 0 k h)

@@ -1,21 +1,21 @@
-use Rattle.std.proofs.Common.{refl}
-use Rattle.std.proofs.lemmas.Result.{err_from_is_err_and}
-use Rattle.sr_base.specs.declared.names.Form.TheVariants as form
-use Rattle.sr_dsr.proofs.FrontLemmas.{frame_unbegun, frame_begun_in}
+use Rattle.std.proofs.Common.{◌≡◌, ◌∙◌, ℕ, sym, ap, refl, None}
+use Rattle.sr_base.specs.Contents.{Contents}
+use Rattle.sr_model.specs.Tokens.{finished}
+use Rattle.sr_model.specs.BinaryTokens.{open_after}
+use Rattle.sr_model.specs.Reading.{reads}
+use Rattle.sr_model.specs.Dsr.{line_in}
+use Rattle.sr_scan.specs.Left.{tokens_left, front_word}
+use Rattle.sr_dsr.proofs.BeginLemmas.{unbegun, line_none}
 use Rattle.sr_dsr.proofs.lines.read_line.Goals as goal
 
-pub returns-in_err-token-clause-frame : goal.returns-in_err-token-clause-frame
-returns-in_err-token-clause-frame g c =
-    let p = err_from_is_err_and c.from_residual.result c.from_residual.ensures.1 in
-    rw (p.1, p.2) (frame_unbegun c.args.form c.args.limits.now c.args.reader.now c.next_token.new.reader (g.D.Desk.outside c.args.desk.now) (g.D.Desk.outside c.next_token.new.desk)
-    c.in_err-token.field-0.0 (c.in_err-token.ensures.token 1 0 refl))
+pub returns-in-Err-clause-frame : goal.returns-in-Err-clause-frame
+returns-in-Err-clause-frame g c = λ (k : Contents) h.
+    unbegun c.args.form c.args.limits.now (tokens_left c.args.form 1 0 c.args.reader.now k) c.in-Err.error (c.in-Err.ensures.token 1 0 refl k h)
 
-pub returns-in-Text-clause-frame : goal.returns-in-Text-clause-frame
-returns-in-Text-clause-frame g c =
-    frame_begun_in c.args.form form.Text c.args.limits.now c.in_ok-token.token c.args.reader.now c.next_token.new.reader c.text_frame.new.reader (g.D.Desk.outside c.args.desk.now) (g.D.Desk.outside c.next_token.new.desk)
-    (g.D.Desk.outside c.text_frame.new.desk) c.text_frame.new.lits c.text_frame.result c.in-Text.is (c.in_ok-token.ensures.token 1 0 refl) c.text_frame.ensures.frame
-
-pub returns-in-Binary-clause-frame : goal.returns-in-Binary-clause-frame
-returns-in-Binary-clause-frame g c =
-    frame_begun_in c.args.form form.Binary c.args.limits.now c.in_ok-token.token c.args.reader.now c.next_token.new.reader c.binary_frame.new.reader (g.D.Desk.outside c.args.desk.now) (g.D.Desk.outside c.next_token.new.desk)
-    (g.D.Desk.outside c.binary_frame.new.desk) c.binary_frame.new.lits c.binary_frame.result c.in-Binary.is (c.in_ok-token.ensures.token 1 0 refl) c.binary_frame.ensures.frame
+pub returns-in-End-clause-frame : goal.returns-in-End-clause-frame
+returns-in-End-clause-frame g c = λ (k : Contents) h.
+    let given = c.in-Ok.ensures.token 1 0 refl k h in
+    let none : tokens_left c.args.form 1 0 c.next_token.new.reader k ≡ finished c.in-Ok.token.place =
+    ap (λ (n : ℕ). tokens_left c.args.form 1 n c.next_token.new.reader k) (sym (ap (open_after 1 0) c.in-End.is)) ∙ given.1 c.in-End.is in
+    ap (line_in c.args.form c.args.limits.now) (given.0 ∙ ap (λ w. front_word c.in-Ok.token.place w (tokens_left c.args.form 1 (open_after 1 0 c.in-Ok.token.word) c.next_token.new.reader k)) c.in-End.is)
+    ∙ line_none c.args.form c.args.limits.now c.in-Ok.token.place ∙ ap (reads None) (sym none)

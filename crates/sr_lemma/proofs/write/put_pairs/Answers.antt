@@ -1,6 +1,6 @@
 use Rattle.std.proofs.Common.{◌≡◌, ◌++◌, ◌∷◌, [], arith}
 use Rattle.std.proofs.lemmas.Grind.{common_steps}
-use Rattle.sr_lemma.specs.Written.{written_literals}
+use Rattle.sr_scan.specs.Written.{written_literals}
 use Rattle.sr_lemma.proofs.WriteLemmas.{pairs_step}
 use Rattle.sr_lemma.proofs.write.put_pairs.Goals as goal
 

@@ -7,7 +7,7 @@ pub hints-init : goal.hints-init
 hints-init c = record {
   within = omega arith;
   small = λ s all. all;
-  spells = λ o lists open_lists some. run_none c.args.form c.args.bound c.args.reader.now o lists open_lists c.args.hints.now;
+  spells = run_none c.args.form c.args.bound c.args.reader.now c.args.hints.now;
 }
 
 pub hints-preserved : goal.hints-preserved
@@ -20,7 +20,8 @@ hints-preserved c =
     record {
       within = rw c.buffered-bytes.ensures (omega (arith, simp length-drop at within));
       small = λ s all. c.in_ok-add.ensures.small (omega (arith, leads.within, s)) (c.hints.invariant.small s all);
-      spells = λ o lists open_lists some these.
-          run_more c.args.form c.args.bound r c.hints.at front _ o lists open_lists c.args.hints.now c.hints.hints c.add.new.self leads inside some c.in_ok-add.ensures.spells
-          (c.hints.invariant.spells o lists open_lists some) these;
+      spells = run_more c.args.form c.args.bound r c.hints.at front c.args.hints.now c.hints.hints c.add.new.self leads inside c.in_ok-add.ensures.spells c.hints.invariant.spells;
     }
+
+pub returns-clause-spells : goal.returns-clause-spells
+returns-clause-spells c = rw c.skip.ensures c.hints.invariant.spells

@@ -1,17 +1,14 @@
-use Rattle.std.proofs.lemmas.Result.{err_from_is_err_and}
-use Rattle.sr_lemma.specs.Left.{tokens_left}
+use Rattle.sr_base.specs.Contents.{Contents}
+use Rattle.sr_scan.specs.Left.{tokens_left}
 use Rattle.sr_lsr.proofs.StepLemmas.{hints_stop, step_read}
 use Rattle.sr_lsr.proofs.items.finish_step.Goals as goal
 
-pub returns-in_err-read_hints-clause-item : goal.returns-in_err-read_hints-clause-item
-returns-in_err-read_hints-clause-item g c =
-    let p = err_from_is_err_and c.from_residual.result c.from_residual.ensures.1 in
-    let new = tokens_left c.args.form 2 0 c.read_hints.new.reader (g.D.Desk.outside c.read_hints.new.desk) in
-    rw (p.1, p.2) (hints_stop c.args.limits.now c.ids.result c.args.id c.args.lists.now.lits c.args.end (tokens_left c.args.form 2 1 c.args.reader.now (g.D.Desk.outside c.args.desk.now)) new new
-    c.in_err-read_hints.field-0.0 c.ids.ensures.value c.in_err-read_hints.ensures.hints)
+pub returns-in-Err-clause-item : goal.returns-in-Err-clause-item
+returns-in-Err-clause-item g c = λ (k : Contents) h.
+    hints_stop c.args.limits.now c.ids.result c.args.id c.args.lists.now.lits c.args.end (tokens_left c.args.form 2 1 c.args.reader.now k) (tokens_left c.args.form 2 0 c.read_hints.new.reader k) c.in-Err.error
+    c.ids.ensures.value (c.in-Err.ensures.hints k h)
 
-pub returns-clause-item : goal.returns-clause-item
-returns-clause-item g c =
+pub returns-in-Ok-clause-item : goal.returns-in-Ok-clause-item
+returns-in-Ok-clause-item g c = λ (k : Contents) h.
     step_read c.args.limits.now c.ids.result c.args.id c.args.lists.now.lits c.args.end c.read_hints.new.hints.prefix c.read_hints.new.hints.groups
-    (tokens_left c.args.form 2 1 c.args.reader.now (g.D.Desk.outside c.args.desk.now)) (tokens_left c.args.form 2 0 c.read_hints.new.reader (g.D.Desk.outside c.read_hints.new.desk))
-    c.ids.ensures.value c.in_ok-read_hints.ensures.hints
+    (tokens_left c.args.form 2 1 c.args.reader.now k) (tokens_left c.args.form 2 0 c.read_hints.new.reader k) c.ids.ensures.value (c.in-Ok.ensures.hints k h)

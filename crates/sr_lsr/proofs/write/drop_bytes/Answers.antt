@@ -1,5 +1,5 @@
 use Rattle.std.proofs.Common.{◌∙◌, ◌++◌, pos, map, ap}
-use Rattle.sr_lemma.specs.Written.{written_numbers, written_end}
+use Rattle.sr_scan.specs.Written.{written_numbers, written_end}
 use Rattle.sr_lsr.specs.Written.{drop_start}
 use Rattle.sr_lsr.proofs.WriteLemmas.{drop_whole}
 use Rattle.sr_lsr.proofs.write.drop_bytes.Goals as goal

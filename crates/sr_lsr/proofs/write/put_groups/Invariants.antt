@@ -1,6 +1,6 @@
 use Rattle.std.proofs.Common.{◌≡◌, ◌++◌, take}
 use Rattle.sr_model.specs.Writing.{groups_written}
-use Rattle.sr_lemma.specs.Written.{written_numbers}
+use Rattle.sr_scan.specs.Written.{written_numbers}
 use Rattle.sr_lsr.proofs.write.put_groups.Given as goal
 
 abbrev pub invariant-loop-i : goal.invariant-loop-i

@@ -1,5 +1,5 @@
 use Rattle.std.proofs.Common.{◌≡◌, ◌++◌, pos, map, take}
-use Rattle.sr_lemma.specs.Written.{written_numbers}
+use Rattle.sr_scan.specs.Written.{written_numbers}
 use Rattle.sr_lsr.proofs.write.put_ids.Given as goal
 
 abbrev pub invariant-loop-id : goal.invariant-loop-id

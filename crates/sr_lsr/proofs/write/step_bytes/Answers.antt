@@ -1,6 +1,6 @@
 use Rattle.std.proofs.Common.{◌∙◌, ◌++◌, ◌∷◌, pos, ap}
 use Rattle.sr_model.specs.Writing.{step_numbers}
-use Rattle.sr_lemma.specs.Written.{written_numbers, written_end}
+use Rattle.sr_scan.specs.Written.{written_numbers, written_end}
 use Rattle.sr_lsr.specs.Written.{step_start}
 use Rattle.sr_lsr.proofs.WriteLemmas.{step_whole}
 use Rattle.sr_lsr.proofs.write.step_bytes.Goals as goal

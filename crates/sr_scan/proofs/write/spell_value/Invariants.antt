@@ -1,5 +1,5 @@
 use Rattle.std.proofs.Common.{◌≡◌, ◌++◌, ◌<◌, ◌≤◌, ◌^◌, ◌-◌, take}
-use Rattle.sr_scan.specs.Binary.{spelled_value}
+use Rattle.sr_model.specs.Writing.{groups_for}
 use Rattle.sr_scan.proofs.write.spell_value.Given as goal
 
 -- the bytes so far, and then those of what is left
@@ -7,7 +7,7 @@ abbrev pub invariant-loop-left : goal.invariant-loop-left
 invariant-loop-left l = record {
   few : l.len ≤ 4;
   room : l.left < 128 ^ (5 - l.len);
-  bytes : spelled_value 9 l.value ≡ take l.len l.bytes ++ spelled_value (9 - l.len) l.left;
+  bytes : groups_for 10 l.value ≡ take l.len l.bytes ++ groups_for (10 - l.len) l.left;
 }
 
 abbrev pub decreases-loop-left : goal.decreases-loop-left

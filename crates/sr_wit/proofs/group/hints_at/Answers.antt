@@ -29,3 +29,9 @@ slice_bounds-result-start-2 c = (ends_within c.args.starts.now (length c.args.hi
 
 pub slice_bounds-result-end-2 : goal.slice_bounds-result-end-2
 slice_bounds-result-end-2 c = (ends_within c.args.starts.now (length c.args.hints.now) c.args.i c.requires.starts (omega arith)).1
+
+pub offset_bounds-hints-start : goal.offset_bounds-hints-start
+offset_bounds-hints-start c = omega (arith, c.type_inv.hints, starts_within c.args.starts.now (length c.args.hints.now) c.args.i c.requires.starts c.requires.index)
+
+pub offset_bounds-hints-start-2 : goal.offset_bounds-hints-start-2
+offset_bounds-hints-start-2 c = omega (arith, c.type_inv.hints, starts_within c.args.starts.now (length c.args.hints.now) c.args.i c.requires.starts c.requires.index)

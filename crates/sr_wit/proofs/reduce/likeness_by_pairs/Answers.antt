@@ -6,8 +6,8 @@ use Rattle.sr_wit.proofs.ReduceLemmas.{has_pair_push, has_pair-take}
 use Rattle.sr_wit.proofs.reduce.likeness_by_pairs.Goals as goal
 use Rattle.sr_wit.proofs.reduce.likeness_by_pairs.Goals.{then-repeated, else-repeated}
 
-pub returns-then-holds : goal.returns-then-holds
-returns-then-holds c =
+pub returns-then-has : goal.returns-then-has
+returns-then-has c =
     let more : take (c.loop-i.i + 1) c.args.lits.now ≡ take c.loop-i.i c.args.lits.now ++ c.index-lits-i.result ∷ [] =
     take_more c.args.lits.now c.loop-i.i c.index-lits-i.result c.loop-i-test.true ∙ ap (λ l. take c.loop-i.i c.args.lits.now ++ l ∷ []) (sym c.index-lits-i.is) in
     let paired : has_pair (take (c.loop-i.i + 1) c.args.lits.now) ≡ true =

@@ -1,12 +1,36 @@
-use Rattle.std.proofs.Common.{refl, sym}
-use Rattle.sr_arena.proofs.Laying.{found, frees}
+use Rattle.std.proofs.Common.{◌-◌, ◌/◌, arith, refl, sym, ◌∙◌, ap, length}
+use Rattle.sr_arena.proofs.Laying.{found, read_size, read_length, freed_written}
+use Rattle.sr_arena.specs.Cells.{Cell}
+use Rattle.sr_arena.specs.Layout.{size_of}
+use Rattle.sr_base.specs.Words.{literal_in}
+use Rattle.std.proofs.lemmas.List.{length-map}
 use Rattle.sr_arena.proofs.regions.Regions.free.Goals as goal
 
+pub index-requires : goal.index-requires
+index-requires c =
+    let f = found c.self.inside.words.items c.self.inside.used _ c.args.at c.args.self.now c.self.invariant c.self.view_is c.requires in
+    omega (arith, f.place, f.fits, c.self.inside.words.ok.0)
+
+pub write-requires : goal.write-requires
+write-requires c =
+    let f = found c.self.inside.words.items c.self.inside.used _ c.args.at c.args.self.now c.self.invariant c.self.view_is c.requires in
+    omega (arith, f.place, f.fits, c.self.inside.words.ok.0)
+
 pub invariant_of-self : goal.invariant_of-self
-invariant_of-self c = (frees c.self.inside.lits.items c.self.inside.headers.items c.args.at c.index_mut-header.result.now _ c.args.self.now c.self.invariant c.self.view_is c.requires c.index_mut-header.ensures.value refl).laid
+invariant_of-self c =
+    let f = found c.self.inside.words.items c.self.inside.used _ c.args.at c.args.self.now c.self.invariant c.self.view_is c.requires in
+    let h = ap size_of (read_size c.self.inside.words.items c.args.at (c.args.at - 1) _ c.index.result.now f refl c.index.ensures) in
+    let s = freed_written c.self.inside.words.items c.write.new.words.items c.self.inside.used _ _ c.args.at (c.args.at - 1) (c.index.result.now.code / 8) c.args.self.now f c.self.invariant c.self.view_is c.write.ensures.room refl h c.write.ensures.words in
+    s.laid
 
 pub returns-clause-value : goal.returns-clause-value
-returns-clause-value c = (frees c.self.inside.lits.items c.self.inside.headers.items c.args.at c.index_mut-header.result.now _ c.args.self.now c.self.invariant c.self.view_is c.requires c.index_mut-header.ensures.value refl).view
+returns-clause-value c =
+    let f = found c.self.inside.words.items c.self.inside.used _ c.args.at c.args.self.now c.self.invariant c.self.view_is c.requires in
+    let h = ap size_of (read_size c.self.inside.words.items c.args.at (c.args.at - 1) _ c.index.result.now f refl c.index.ensures) in
+    let s = freed_written c.self.inside.words.items c.write.new.words.items c.self.inside.used _ _ c.args.at (c.args.at - 1) (c.index.result.now.code / 8) c.args.self.now f c.self.invariant c.self.view_is c.write.ensures.room refl h c.write.ensures.words in
+    s.view
 
 pub returns-clause-len : goal.returns-clause-len
-returns-clause-len c = sym (found c.self.inside.lits.items c.self.inside.headers.items c.args.at c.index_mut-header.result.now c.args.self.now c.self.invariant c.self.view_is c.requires c.index_mut-header.ensures.value).length_is
+returns-clause-len c =
+    let f = found c.self.inside.words.items c.self.inside.used _ c.args.at c.args.self.now c.self.invariant c.self.view_is c.requires in
+    read_length c.self.inside.words.items c.args.at (c.args.at - 1) _ c.index.result.now f refl c.index.ensures ∙ sym (ap (λ (x : Cell). length x.lits) f.cell ∙ length-map f.body literal_in)

@@ -1,5 +1,5 @@
 use Rattle.std.proofs.Common.{subst}
-use Rattle.sr_check.specs.Occurring.{KeepsListed}
+use Rattle.sr_occurs.specs.Occurring.{KeepsListed}
 use Rattle.sr_check.proofs.Checks.{keeps_room}
 use Rattle.sr_check.proofs.checker.Checker.take_step.Goals as goal
 

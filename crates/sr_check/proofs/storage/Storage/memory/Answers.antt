@@ -4,4 +4,4 @@ use Rattle.sr_check.proofs.Storing.{holds_live}
 use Rattle.sr_check.proofs.storage.Storage.memory.Goals as goal
 
 pub returns-clause-holds : goal.returns-clause-holds
-returns-clause-holds c = subst (HoldsLive c.self.inside.mem) (ap (λ (s : Stored). s.clauses) c.self.view_is) (holds_live c.self.inside.mem c.self.inside.ids.items c.self.inside.table c.self.invariant.stored)
+returns-clause-holds c = subst (HoldsLive c.self.inside.mem) (ap (λ (s : Stored). s.clauses) c.self.view_is) (holds_live c.self.inside.mem c.self.inside.table c.self.invariant.linked)

@@ -1,20 +1,39 @@
-use Rattle.std.proofs.Common.{◌∙◌, ap, refl}
-use Rattle.sr_check.specs.Storage.{Stored, live_of}
-use Rattle.sr_check.proofs.Listing.{holds_kept}
-use Rattle.sr_check.proofs.Storing.{stored_is}
-use Rattle.sr_check.proofs.Moving.{is_kept, live_moved, stored_moved}
+use Rattle.std.proofs.Common.{◌∙◌, ap, refl, arith, subst, sym}
+use Rattle.sr_model.specs.Chain.{clauses}
+use Rattle.sr_model.specs.Judging.{cells_of}
+use Rattle.sr_check.specs.Storage.{Stored, live_of, AreApart}
+use Rattle.sr_check.proofs.Storing.{counts, apart_stored, stored_is}
+use Rattle.sr_check.proofs.Relinking.{live_packed, unmarked_packed, low_packed}
 use Rattle.sr_check.proofs.storage.Storage.tidy.Goals as goal
 
+pub returns-then-used_cells-held-clause-ok : goal.returns-then-used_cells-held-clause-ok
+returns-then-used_cells-held-clause-ok c =
+    omega (arith, c.if-used_cells-held.true, c.used_cells.ensures, c.held_cells-held.ensures.value, counts c.self.inside.mem, ap (λ (s : Stored). s.used) c.self.view_is, ap (λ (s : Stored). cells_of (clauses s.clauses)) c.self.view_is)
+
+pub link-requires-clause-apart : goal.link-requires-clause-apart
+link-requires-clause-apart c = subst AreApart (sym (live_packed c.self.inside.mem c.pack.new.self c.pack.ensures)) (apart_stored c.self.inside.mem c.self.inside.table c.self.invariant.linked)
+
 pub invariant_of-self-2 : goal.invariant_of-self-2
-invariant_of-self-2 c = rw c.drop_dead.ensures (record {
-  stored = stored_moved c.self.inside.mem c.compact.new.self c.self.inside.ids.items c.self.inside.table c.rename.new.table c.compact.new.moved c.self.invariant.stored c.in_ok-compact.ensures.ok c.rename.ensures;
-  low = λ n h. c.self.invariant.low n (holds_kept (is_kept c.rename.new.table) c.self.inside.ids.items n h);
-  limit = c.in_ok-compact.ensures.ok.most ∙ c.self.invariant.limit;
-})
+invariant_of-self-2 c =
+    let s = c.self.invariant in
+    record {
+      linked = c.link.ensures.linked;
+      unmarked = unmarked_packed c.self.inside.mem c.pack.new.self c.self.inside.table c.link.new.table s.linked s.unmarked c.pack.ensures c.link.ensures.linked;
+      low = low_packed c.self.inside.mem c.pack.new.self c.self.inside.table c.link.new.table c.self.inside.last s.linked s.low c.pack.ensures c.link.ensures.linked;
+      limit = c.pack.ensures.most ∙ s.limit;
+      bound = s.bound;
+      pages = omega (arith, c.link.ensures.pages, c.in_ok-prepare.ensures.pages, c.pack.ensures.used, c.pack.ensures.held);
+    }
 
 pub returns-clause-same : goal.returns-clause-same
 returns-clause-same c =
-    let moved = live_moved c.self.inside.mem c.compact.new.self c.self.inside.ids.items c.self.inside.table c.rename.new.table c.compact.new.moved c.self.invariant.stored.linked c.in_ok-compact.ensures.ok c.rename.ensures in
-    stored_is (live_of c.compact.new.self c.drop_dead.new.ids.items c.rename.new.table) (live_of c.self.inside.mem c.self.inside.ids.items c.self.inside.table) c.self.inside.last c.self.inside.most c.compact.new.self.used c.compact.new.self.used
-    (ap (λ x. live_of c.compact.new.self x c.rename.new.table) c.drop_dead.ensures ∙ moved) refl
-    ∙ ap (λ (s : Stored). let t : Stored = record s { used = c.compact.new.self.used } in t) c.self.view_is
+    stored_is (live_of c.pack.new.self) (live_of c.self.inside.mem) c.self.inside.last c.self.inside.most c.pack.new.self.used c.pack.new.self.used (live_packed c.self.inside.mem c.pack.new.self c.pack.ensures) refl
+    ∙ ap (λ (s : Stored). let t : Stored = record s { used = c.pack.new.self.used } in t) c.self.view_is
+
+pub returns-clause-rare : goal.returns-clause-rare
+returns-clause-rare c low =
+    absurd (omega (arith, low, c.if-used_cells-held.false, c.used_cells.ensures, c.held_cells-held.ensures.value, counts c.self.inside.mem, ap (λ (s : Stored). s.used) c.self.view_is, ap (λ (s : Stored). cells_of (clauses s.clauses)) c.self.view_is))
+
+pub returns-clause-ok : goal.returns-clause-ok
+returns-clause-ok c =
+    omega (arith, c.pack.ensures.used, c.pack.ensures.held, counts c.self.inside.mem, ap (λ (s : Stored). cells_of (clauses s.clauses)) c.self.view_is)

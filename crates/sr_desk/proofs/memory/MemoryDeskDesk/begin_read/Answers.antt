@@ -25,7 +25,8 @@ invariant_of-self-in-Some c =
 pub returns-in-Some-clause-begins : goal.returns-in-Some-clause-begins
 returns-in-Some-clause-begins c =
     let nine : length c.args.self.now.uses ≡ 9 = search rules in
+    let lt_last : c.args.self.now.begun < length c.args.self.now.last = search rules in
     let size : c.text_len-end.result ≡ length (text_at (texts_of c.args.self.now.versions.items) c.in-Some.version) = rw c.deref-in-Some.ensures.value at c.text_len-end.ensures in
     let found : latest (names_of c.args.self.now.versions.items) c.args.name.now ≡ Some c.in-Some.version = sym (rw (c.deref.ensures.value, c.as_bytes.ensures.value) at c.in-Some.ensures.latest) in
-    rw size (begins_read-ok (names_of c.args.self.now.versions.items) (texts_of c.args.self.now.versions.items) c.args.self.now.out.items c.args.self.now.begun c.args.self.now.uses c.args.self.now.ended
-    c.args.self.now.faults c.args.name.now c.in-Some.version _ refl found c.requires nine c.args.self.now.later)
+    rw size (begins_read-ok (names_of c.args.self.now.versions.items) (texts_of c.args.self.now.versions.items) c.args.self.now.out.items c.args.self.now.begun c.args.self.now.uses
+    (record { last = c.args.self.now.last; finished = c.args.self.now.finished; faults = c.args.self.now.faults }) c.args.name.now c.in-Some.version _ refl found c.requires nine lt_last c.args.self.now.later)

@@ -30,10 +30,10 @@ invariant_of-self-in-Ok c =
 pub returns-in-Ok-clause-begins : goal.returns-in-Ok-clause-begins
 returns-in-Ok-clause-begins c =
     let nine : length c.args.self.now.uses ≡ 9 = search rules in
-    let nine_ended : length c.args.self.now.ended ≡ 9 = search rules in
+    let lt_finished : c.args.self.now.begun < length c.args.self.now.finished = search rules in
     let names : names_of c.add.new.versions.items ≡ names_of c.args.self.now.versions.items ++ c.args.name.now ∷ [] = rw c.as_bytes.ensures.value at c.in-Ok.ensures.names in
-    rw (names, c.in-Ok.ensures.texts, c.in-Ok.ensures.place) (begins_write-ok (names_of c.args.self.now.versions.items) (texts_of c.args.self.now.versions.items) c.args.self.now.out.items c.args.self.now.begun c.args.self.now.uses c.args.self.now.ended
-    c.args.self.now.faults c.args.name.now _ refl (same_length c.args.self.now.versions.items) c.requires nine nine_ended c.args.self.now.later c.args.self.now.fit)
+    rw (names, c.in-Ok.ensures.texts, c.in-Ok.ensures.place) (begins_write-ok (names_of c.args.self.now.versions.items) (texts_of c.args.self.now.versions.items) c.args.self.now.out.items c.args.self.now.begun c.args.self.now.uses
+    (record { last = c.args.self.now.last; finished = c.args.self.now.finished; faults = c.args.self.now.faults }) c.args.name.now _ refl (same_length c.args.self.now.versions.items) c.requires nine lt_finished c.args.self.now.later c.args.self.now.fit)
 
 pub returns-in-Ok-clause-empties : goal.returns-in-Ok-clause-empties
 returns-in-Ok-clause-empties c =

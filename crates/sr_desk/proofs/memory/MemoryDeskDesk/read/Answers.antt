@@ -1,10 +1,11 @@
 use Rattle.std.proofs.Common.{rules, ◌≡◌, ◌<◌, ◌≤◌, ◌+◌, ◌-◌, ℕ, min, length, ◌∙◌, arith, ap, refl, IsTrue, ◌++◌, take, drop, length-take, length-drop, length-append}
 use Rattle.sr_desk.specs.MemoryParts.{names_of, texts_of, text_at, usage_at, fits}
 use Rattle.sr_desk.specs.declared.held.Usage.TheVariants.{Reading}
-use Rattle.sr_desk.proofs.MemoryLemmas.{AllFit-set, AllApart-set, AllUnused-used, output-set, not_output}
+use Rattle.sr_desk.proofs.MemoryLemmas.{usage-set_same, AllFit-set, AllApart-set, AllUnused-used, output-set, not_output}
 use Rattle.sr_desk.proofs.OwnerLemmas.{owners-set}
 use Rattle.sr_desk.proofs.VersionLemmas.{reading-fits, fits-reading, IsReading}
-use Rattle.sr_desk.proofs.DeskLemmas.{moves-ok}
+use Rattle.sr_desk.proofs.DeskLemmas.{hands-ok, reads-ok}
+use Rattle.sr_desk.proofs.CallLemmas.{none_left}
 use Rattle.sr_desk.proofs.memory.MemoryDeskDesk.read.Goals as goal
 
 pub invariant_of-self-in-Reading : goal.invariant_of-self-in-Reading
@@ -38,13 +39,26 @@ returns-clause-bytes c =
     let some : 0 < c.args.self.now.most = c.args.self.now.some in
     let copied : c.copy_text.new.buf ≡ take c.min-count.result (drop c.in-Reading.place (text_at (texts_of c.args.self.now.versions.items) c.in-Reading.version)) ++ drop c.min-count.result c.args.buf.now =
     rw c.deref.ensures.value at c.copy_text.ensures in
-    rw copied (moves-ok (texts_of c.args.self.now.versions.items) c.args.self.now.uses c.args.slot.number c.in-Reading.version c.in-Reading.place c.in-Reading.end c.min-count.result
+    let lt_last : c.args.slot.number < length c.args.self.now.last = search rules in
+    rw copied (hands-ok (names_of c.args.self.now.versions.items) (texts_of c.args.self.now.versions.items) c.args.self.now.out.items c.args.self.now.begun c.args.self.now.uses
+    (record { last = c.args.self.now.last; finished = c.args.self.now.finished; faults = c.args.self.now.faults }) c.args.slot.number c.in-Reading.version c.in-Reading.place c.in-Reading.end c.min-count.result c.after_read.result
     (take c.min-count.result (drop c.in-Reading.place (text_at (texts_of c.args.self.now.versions.items) c.in-Reading.version))) c.args.buf.now
-    was (omega (arith, nine, small)) (omega (arith, count, old.place)) (λ h z. omega (arith, count, old.place, h, z, some)) refl
+    was (omega (arith, nine, small)) lt_last (omega (arith, count, old.place)) (λ h z. omega (arith, count, old.place, h, z, some)) refl
     (simp (length-take, length-drop) (omega (arith, count, old.place, old.end)))
-    (simp (length-append, length-take, length-drop) (omega (arith, count, old.place, old.end))))
+    (simp (length-append, length-take, length-drop) (omega (arith, count, old.place, old.end))) (rw copied at c.after_read.ensures))
 
 pub returns-clause-owners : goal.returns-clause-owners
 returns-clause-owners c =
     owners-set (names_of c.args.self.now.versions.items) c.args.self.now.uses c.args.slot.number (Reading c.in-Reading.version (c.in-Reading.place + c.min-count.result) c.in-Reading.end)
     (λ name. rw c.in-Reading.is refl)
+
+pub returns-clause-only : goal.returns-clause-only
+returns-clause-only c =
+    let was : usage_at c.args.self.now.uses c.args.slot.number ≡ Reading c.in-Reading.version c.in-Reading.place c.in-Reading.end = c.in-Reading.is in
+    let lt : c.args.slot.number < length c.args.self.now.uses = search rules in
+    let lt_last : c.args.slot.number < length c.args.self.now.last = search rules in
+    let hands = returns-clause-bytes c in
+    reads-ok (names_of c.args.self.now.versions.items) (texts_of c.args.self.now.versions.items) c.args.self.now.out.items c.args.self.now.begun c.args.self.now.uses
+    (record { last = c.args.self.now.last; finished = c.args.self.now.finished; faults = c.args.self.now.faults }) c.args.slot.number c.in-Reading.version c.in-Reading.place c.in-Reading.end (c.in-Reading.place + c.min-count.result) c.after_read.result was lt lt_last
+    (λ e. none_left _ _ c.after_read.result c.copy_text.new.buf c.min-count.result c.after_read.ensures hands.left e _
+    (rw (usage-set_same c.args.self.now.uses c.args.slot.number (Reading c.in-Reading.version (c.in-Reading.place + c.min-count.result) c.in-Reading.end) lt) refl))

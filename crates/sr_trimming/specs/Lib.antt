@@ -1,0 +1,13 @@
+pub mod Reordered
+pub mod Citing
+pub mod Placing
+pub mod Lean
+pub mod Loading
+pub mod Backward
+pub mod Trimmed
+pub mod CoreFirst
+pub mod From
+pub mod Passing
+pub mod Evidence
+pub mod Written
+pub mod OrderLaws

@@ -1,0 +1,12 @@
+pub mod Looking
+pub mod Entries
+pub mod Clauses
+pub mod Bounds
+pub mod Growing
+pub mod Slots
+pub mod Answering
+pub mod Keeping
+pub mod Leaning
+pub mod Tables
+pub mod Marking
+pub mod Clashing

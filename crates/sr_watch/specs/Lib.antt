@@ -1,0 +1,10 @@
+pub mod Parts
+pub mod State
+pub mod Changes
+pub mod Meaning
+pub mod Lean
+pub mod Inside
+pub mod Scanning
+pub mod Running
+pub mod Trail
+pub mod Marks
