@@ -1,0 +1,2 @@
+//! The steps that a backward pass keeps, in flat lists.
+#![tactic(auto)]
