@@ -26,42 +26,17 @@ use Rattle.sr_emit.specs.declared.outcome.Outcome.{Outcome}
 use Rattle.sr_emit.specs.declared.outcome.Outcome.TheVariants as outcome
 use Rattle.sr_emit.specs.declared.counts.Counts.{Counts}
 use Rattle.sr_cli.specs.Words.{Said}
-use Rattle.sr_cli.specs.Files.{fresh, ReadsSlots, ReadsFiles, GivesFile, IsUnread, IsCallFault, ReadsFront, outcome_by}
+use Rattle.sr_files.proofs.Reading.{fresh_text, reads_front, unread_text, unread_bytes, unread_formula, unread_agrees}
+use Rattle.sr_files.specs.Files.{fresh, ReadsSlots, ReadsFiles, GivesFile, IsUnread, IsCallFault, ReadsFront, outcome_by}
 use Rattle.sr_cli.specs.Check.{ByProof, ByClauses, ByFormula, IsFirst, EndsAt, counts_of}
 use Rattle.sr_cli.specs.Runs.{Judges, JudgesFormula, HasProofCause, counts_by}
 use Rattle.sr_cli.specs.declared.check.Checked.{Checked}
 use Rattle.sr_cli.specs.declared.proof.Tally.{Tally}
-use Rattle.sr_cli.proofs.Judging.{unread_agrees, formula_judged}
-
-pub fresh_text : (slot limit : ℕ) (c : Contents) → text_left (fresh slot limit) c ≡ spelled limit c
-fresh_text slot limit c = let all : limit - 0 ≡ limit = omega arith in rw all refl
+use Rattle.sr_cli.proofs.Judging.{formula_judged}
 
 pub fresh_tokens : (f : Form) (slot limit : ℕ) (c : Contents) → tokens_left f 2 0 (fresh slot limit) c ≡ item_tokens f limit c
 fresh_tokens form.Text slot limit c = fresh_text slot limit c
 fresh_tokens form.Binary slot limit c = let all : limit - 0 ≡ limit = omega arith in rw all refl
-
--- what is read from the start of a file is what the file spells
-pub reads_front : {A : Type 0} (read : Tokens → Read A) (r : Reader) (slot limit : ℕ) (c : Contents) (left : Tokens) (result : Result A InputError) → r ≡ fresh slot limit
-    → Gives (read (text_left r c)) left result → ReadsFront (read (spelled limit c)) result
-reads_front {A} read r slot limit c left result is h = at result (subst (λ (ts : Tokens). Gives (read ts) left result) (ap (λ (x : Reader). text_left x c) is ∙ fresh_text slot limit c) h)
-  where
-    at : (x : Result A InputError) → Gives (read (spelled limit c)) left x → ReadsFront (read (spelled limit c)) x
-    at (Ok x) g = (left, g)
-    at (Err e) g = g
-
-no_text : (limit : ℕ) → spelled_from failed None limit 0 [] ≡ lost
-unfolding spelled_from
-no_text limit = let small : nat_le 0 limit ≡ true = grind (arith, nat_tests) in rw small refl
-
-no_bytes : (limit : ℕ) → binary_from failed 2 0 limit 0 [] ≡ lost
-unfolding binary_from
-no_bytes limit = let small : nat_le 0 limit ≡ true = grind (arith, nat_tests) in rw small refl
-
-unread_text : (limit : ℕ) (s : SlotState) (c : Contents) → IsUnread s → Agrees s c → spelled limit c ≡ lost
-unread_text limit s c u a = let is = unread_agrees s c u a in rw (is.0, is.1) (no_text limit)
-
-unread_bytes : (limit : ℕ) (s : SlotState) (c : Contents) → IsUnread s → Agrees s c → spelled_binary 2 limit c ≡ lost
-unread_bytes limit s c u a = let is = unread_agrees s c u a in rw (is.0, is.1) (no_bytes limit)
 
 lost_item : (lim : LimitValues) → item_at lim lost ≡ fails
 unfolding item_at
@@ -74,14 +49,6 @@ lost_binary_item lim = refl
 unread_item : (lim : LimitValues) (f : Form) (s : SlotState) (c : Contents) → IsUnread s → Agrees s c → item_in f lim (item_tokens f lim.bytes c) ≡ fails
 unread_item lim form.Text s c u a = rw (unread_text lim.bytes s c u a) (lost_item lim)
 unread_item lim form.Binary s c u a = rw (unread_bytes lim.bytes s c u a) (lost_binary_item lim)
-
--- a formula whose file couldn't be begun
-pub unread_formula : (lim : LimitValues) (s : SlotState) (c : Contents) (e : InputError) → IsCallFault e → (is_source e ≡ true → IsUnread s) → Agrees s c
-    → Refuses (formula_at lim (spelled lim.bytes c)) e
-unread_formula lim s c (fault.Text kind place) k u a = absurd k
-unread_formula lim s c (fault.Limit kind) k u a = absurd k
-unread_formula lim s c fault.Source k u a = rw (unread_text lim.bytes s c (u refl) a) refl
-unread_formula lim s c fault.NoMemory k u a = tt
 
 -- a proof whose file couldn't be begun
 pub unread_proof : (lim : LimitValues) (f : Form) (strict : Bool) (cs : List (List Literal)) (s : SlotState) (c : Contents) (k : Counts) → has_empty cs ≡ false → IsUnread s → Agrees s c

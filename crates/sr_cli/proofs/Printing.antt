@@ -14,7 +14,7 @@ use Rattle.sr_emit.specs.declared.outcome.Outcome.TheVariants as outcome
 use Rattle.sr_emit.specs.declared.outcome.UsageKind.{UsageKind}
 use Rattle.sr_emit.specs.declared.counts.Counts.{Counts}
 use Rattle.sr_cli.specs.Words.{Said, Asked, refused, checks}
-use Rattle.sr_cli.specs.Files.{ReadsSlots, ReadsFiles, HasReadCause}
+use Rattle.sr_files.specs.Files.{ReadsSlots, ReadsFiles, HasReadCause}
 use Rattle.sr_cli.specs.Check.{IsFirst}
 use Rattle.sr_cli.specs.Run.{OnlyPrints, IsPrinted, IsCutShort, Reports, Runs}
 

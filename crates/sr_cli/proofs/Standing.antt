@@ -30,7 +30,7 @@ use Rattle.sr_lsr.specs.Reads.{item_told}
 use Rattle.sr_emit.specs.declared.counts.Counts.{Counts}
 use Rattle.sr_emit.specs.declared.outcome.Outcome.{Outcome}
 use Rattle.sr_emit.specs.declared.outcome.Outcome.TheVariants as outcome
-use Rattle.sr_cli.specs.Files.{outcome_by}
+use Rattle.sr_files.specs.Files.{outcome_by}
 use Rattle.sr_cli.specs.Check.{grows_past, CellsFit, by_item, by_meeting, counted, item_steps, item_hints, steps_of, hints_of, counts_of, EndsAt, ByProof}
 use Rattle.sr_cli.specs.Runs.{Progress, Tallies, Takes, Judges, counts_by}
 use Rattle.sr_cli.specs.declared.proof.Tally.{Tally}

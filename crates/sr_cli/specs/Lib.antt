@@ -1,6 +1,5 @@
 pub mod Commands
 pub mod Words
-pub mod Files
 pub mod Check
 pub mod Runs
 pub mod Run

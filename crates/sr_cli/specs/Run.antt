@@ -18,7 +18,7 @@ use Rattle.sr_emit.specs.declared.outcome.Outcome.{Outcome}
 use Rattle.sr_emit.specs.declared.outcome.Outcome.TheVariants as outcome
 use Rattle.sr_emit.specs.declared.counts.Counts.{Counts}
 use Rattle.sr_cli.specs.Words.{Asked, refused, checks}
-use Rattle.sr_cli.specs.Files.{GivesFile, HasReadCause}
+use Rattle.sr_files.specs.Files.{GivesFile, HasReadCause}
 use Rattle.sr_cli.specs.Check.{IsFirst}
 
 -- standard output has the slot 8; nothing else changed

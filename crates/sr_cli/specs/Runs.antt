@@ -18,7 +18,7 @@ use Rattle.sr_emit.specs.declared.outcome.Outcome.{Outcome}
 use Rattle.sr_emit.specs.declared.outcome.Outcome.TheVariants as outcome
 use Rattle.sr_emit.specs.declared.counts.Counts.{Counts}
 use Rattle.sr_cli.specs.Check.{CellsFit, by_item, counted, steps_of, hints_of, item_steps, item_hints, ByProof, ByClauses}
-use Rattle.sr_cli.specs.Files.{ReadsFiles, GivesFile}
+use Rattle.sr_files.specs.Files.{ReadsFiles, GivesFile}
 use Rattle.sr_cli.specs.declared.check.Checked.{Checked}
 use Rattle.sr_cli.specs.declared.proof.Tally.{Tally}
 

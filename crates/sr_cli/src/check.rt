@@ -2,18 +2,18 @@
 ghost use Rattle.std.specs.Prelude.{◌≡◌, ◌⊎◌, ◌≤◌};
 ghost use Rattle.sr_base.specs.Contents.{Contents};
 ghost use Rattle.sr_desk.specs.Outside.{Agrees};
-ghost use Rattle.sr_cli.specs.Files.{ReadsFiles, GivesFile, HasReadCause};
+ghost use Rattle.sr_files.specs.Files.{ReadsFiles, GivesFile, HasReadCause};
 ghost use Rattle.sr_cli.specs.Check.{IsFirst};
 ghost use Rattle.sr_cli.specs.Words.{said};
 ghost use Rattle.sr_cli.specs.Runs.{JudgesFormula};
 
-use crate::files::{load_formula, open_file};
-use crate::proof::{Tally, judge_proof, outcome_of};
+use crate::proof::{Tally, judge_proof};
 use crate::words::CheckWords;
 use sr_base::{AddError, LimitKind, Limits, Which};
 use sr_check::Checker;
 use sr_desk::Desk;
 use sr_emit::{Counts, Outcome};
+use sr_files::{load_formula, open_file, outcome_of};
 use sr_wit::Formula;
 use std::alloc::Global;
 

@@ -2,7 +2,6 @@
 #![tactic(auto)]
 
 mod check;
-mod files;
 mod proof;
 mod report;
 mod running;

@@ -9,12 +9,12 @@ ghost use Rattle.sr_desk.specs.Next.{Stands};
 ghost use Rattle.sr_wit.specs.LsrItems.{item_of};
 ghost use Rattle.sr_cli.specs.Check.{counted, group_hints, hints_of_step};
 ghost use Rattle.sr_cli.specs.Runs.{Tallies, Takes, Judges, HasFileCause};
-ghost use Rattle.sr_cli.specs.Files.{outcome_by};
 
-use sr_base::{Form, InputError, LimitKind, Limits, Which};
+use sr_base::{Form, LimitKind, Limits, Which};
 use sr_check::{Checker, TakeError};
 use sr_desk::{ByteReader, Desk};
 use sr_emit::Outcome;
+use sr_files::outcome_of;
 use sr_lsr::ItemReader;
 use sr_model::Verdict;
 use sr_wit::{GroupList, LsrItem, Step};
@@ -58,18 +58,6 @@ fn hints_in(groups: &GroupList) -> u64
         hints = hints.saturating_add(groups.hints(i).len() as u64);
     }
     hints
-}
-
-/// The outcome of a file that isn't read.
-pub(crate) fn outcome_of(which: Which, error: InputError) -> Outcome
-    ensures { result ≡ outcome_by which error }
-{
-    match error {
-        InputError::Text { kind, place } => Outcome::Text { which, kind, place },
-        InputError::Limit(kind) => Outcome::Limit { which, kind },
-        InputError::Source => Outcome::SourceFault { which },
-        InputError::NoMemory => Outcome::NoMemory,
-    }
 }
 
 /// Takes an item, and gives the outcome where judging ends with it.

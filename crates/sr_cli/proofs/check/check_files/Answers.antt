@@ -5,7 +5,7 @@ use Rattle.sr_model.specs.Dimacs.{Formula, formula_at}
 use Rattle.sr_desk.specs.Outside.{Agrees}
 use Rattle.sr_scan.specs.Left.{Refuses}
 use Rattle.sr_cli.specs.Words.{said}
-use Rattle.sr_cli.specs.Files.{ReadsFront}
+use Rattle.sr_files.specs.Files.{ReadsFront}
 use Rattle.sr_cli.specs.declared.check.Checked.{Checked}
 use Rattle.sr_cli.proofs.Opening.{formula_unread, formula_read}
 use Rattle.sr_cli.proofs.check.check_files.Goals as goal

@@ -7,7 +7,7 @@ use Rattle.sr_desk.specs.Outside.{OnlyReads, Rose}
 use Rattle.sr_desk.specs.Reader.{Reader}
 use Rattle.sr_check.specs.Checking.{Checking}
 use Rattle.sr_scan.specs.Left.{is_source}
-use Rattle.sr_cli.specs.Files.{fresh, ReadsSlots, Opened, GivesFile, IsUnread}
+use Rattle.sr_files.specs.Files.{fresh, ReadsSlots, Opened, GivesFile, IsUnread}
 use Rattle.sr_cli.specs.Check.{counts_of}
 use Rattle.sr_cli.specs.Runs.{HasFileCause, counts_by}
 use Rattle.sr_cli.specs.declared.check.Checked.{Checked}

@@ -1,5 +1,5 @@
 -- What a run does to the outside while it reads.
-use Rattle.std.specs.Prelude.{◌≡◌, ◌≢◌, ◌⊎◌, ℕ, ◌≤◌, ◌<◌, true, false, List, [], Option, Some, None, Result, Ok, Err}
+use Rattle.std.specs.Prelude.{◌≡◌, ◌≢◌, ◌⊎◌, ℕ, ◌≤◌, ◌<◌, true, false, List, [], Some, None, Result, Ok, Err}
 use Rattle.sr_base.specs.Contents as contents
 use Rattle.sr_base.specs.Contents.{Contents, whole}
 use Rattle.sr_base.specs.Limits.{LimitValues}
@@ -15,7 +15,7 @@ use Rattle.sr_desk.specs.Outside.{Outside, SlotState, Agrees, StaysKnown, NoneLe
 use Rattle.sr_desk.specs.Reader.{Reader}
 use Rattle.sr_scan.specs.Left.{Refuses, is_fault}
 use Rattle.sr_emit.specs.declared.outcome.Outcome.{Outcome}
-use Rattle.sr_emit.specs.declared.outcome.Outcome.TheVariants.{Usage, Text, Limit, SourceFault, SinkFault, NoMemory}
+use Rattle.sr_emit.specs.declared.outcome.Outcome.TheVariants.{Text, Limit, SourceFault, SinkFault, NoMemory}
 
 -- a slot was only read: what was written to it, and whether it may be written, are as they were
 pub record IsOnlyRead (old new : SlotState) : Type 0 where

@@ -2,7 +2,7 @@
 ghost use Rattle.std.specs.Prelude.{◌≡◌, ◌<◌, ◌+◌, true, IfOk, IfErr};
 ghost use Rattle.sr_desk.specs.Next.{Stands};
 ghost use Rattle.sr_scan.specs.Left.{is_fault};
-ghost use Rattle.sr_cli.specs.Files.{ReadsSlots, Opened, GivesFile, ReadsFormula, HasNextCause, IsUnread, IsCallFault, fresh};
+ghost use Rattle.sr_files.specs.Files.{ReadsSlots, Opened, GivesFile, ReadsFormula, HasNextCause, IsUnread, IsCallFault, fresh};
 
 use sr_base::{InputError, Limits};
 use sr_cnf::read_formula;
@@ -11,7 +11,7 @@ use sr_wit::Formula;
 use std::alloc::Global;
 
 /// Begins to read a file.
-pub(crate) fn open_file<D: Desk>(
+pub fn open_file<D: Desk>(
     alloc: Global,
     limits: &Limits,
     desk: &mut D,
@@ -37,7 +37,7 @@ pub(crate) fn open_file<D: Desk>(
 }
 
 /// The formula of a file.
-pub(crate) fn load_formula<D: Desk>(
+pub fn load_formula<D: Desk>(
     alloc: Global,
     limits: &Limits,
     desk: &mut D,

@@ -2,10 +2,9 @@ use Rattle.std.proofs.Common.{◌≡◌, ◌∙◌, ℕ, ap, sym, subst}
 use Rattle.sr_desk.specs.Outside.{Agrees}
 use Rattle.sr_desk.specs.Reader.{Reader}
 use Rattle.sr_model.specs.Dimacs.{formula_at}
-use Rattle.sr_cli.specs.Files.{GivesFile}
-use Rattle.sr_cli.proofs.Judging.{opened_on, opened_gives}
-use Rattle.sr_cli.proofs.Opening.{reads_front, unread_formula}
-use Rattle.sr_cli.proofs.files.load_formula.Goals as goal
+use Rattle.sr_files.specs.Files.{GivesFile}
+use Rattle.sr_files.proofs.Reading.{opened_on, opened_gives, reads_front, unread_formula}
+use Rattle.sr_files.proofs.files.load_formula.Goals as goal
 
 pub returns-in-Ok-clause-formula : goal.returns-in-Ok-clause-formula
 returns-in-Ok-clause-formula g c = λ d a.
