@@ -1,2 +1,6 @@
 //! The steps that a backward pass keeps, in flat lists.
 #![tactic(auto)]
+
+mod table;
+
+pub use table::StepTable;

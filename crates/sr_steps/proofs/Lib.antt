@@ -1,0 +1,4 @@
+pub mod Lying
+pub mod Sorting
+pub mod Growing
+pub mod Reading
