@@ -1,5 +1,5 @@
 -- What contracts see of a loader.
-use Rattle.std.specs.Prelude.{ℕ, ◌+◌, Bool, true, false, nat_lt, not, ◌&&◌, ◌≡◌, List, [], ◌∷◌, ◌++◌}
+use Rattle.std.specs.Prelude.{ℕ, ◌+◌, Bool, false, nat_lt, not, ◌&&◌, ◌≡◌, List, [], ◌∷◌, ◌++◌}
 use Rattle.sr_model.specs.Refutation.{is_empty}
 use Rattle.sr_model.specs.Chain.{clauses}
 use Rattle.sr_model.specs.Judging.{clause_cells, cells_of}

@@ -1,0 +1,13 @@
+//! `trim` from files to files: the formula and the proof are read, and what is needed of the proof is written.
+#![tactic(auto)]
+
+mod loading;
+mod passing;
+mod reading;
+mod texts;
+mod trim;
+mod words;
+mod writing;
+
+pub use trim::{Trimmed, trim_files};
+pub use words::TrimWords;

@@ -1,0 +1,70 @@
+// `trim` over files.
+ghost use Rattle.std.specs.Prelude.{◌≡◌};
+ghost use Rattle.sr_trim.specs.Said.{trim_said};
+ghost use Rattle.sr_trim.specs.Finding.{Finds};
+
+use crate::passing::pass;
+use crate::reading::load_files;
+use crate::words::TrimWords;
+use crate::writing::write_texts;
+use sr_base::Limits;
+use sr_desk::Desk;
+use sr_emit::{Counts, Outcome};
+use std::alloc::Global;
+
+/// What was answered, and what was counted.
+#[derive(Clone, Copy, Debug, PartialEq, Eq)]
+pub struct Trimmed {
+    pub outcome: Outcome,
+    pub counts: Counts,
+}
+
+fn without_counts(outcome: Outcome) -> Trimmed
+    ensures { result.outcome ≡ outcome }
+{
+    Trimmed {
+        outcome,
+        counts: Counts {
+            clauses: 0,
+            core: 0,
+            lemmas: 0,
+            steps: 0,
+            hints: 0,
+            passed: 0,
+        },
+    }
+}
+
+/// Reads the formula and the proof, and writes the proof and the core that are needed of them, where these are asked for.
+///
+/// The files that are begun have the slots from 0 on: the formula, the proof unless the formula alone conflicts, the proof that
+/// is written, and the core.
+pub fn trim_files<D: Desk>(
+    alloc: Global,
+    limits: &Limits,
+    words: &TrimWords<'_>,
+    desk: &mut D,
+) -> Trimmed
+    requires { (D.outside desk.old).begun ≡ 0 }
+    ensures { Finds limits.now (trim_said words.now) (D.outside desk.old) (D.outside desk.new) result.outcome result.counts }
+{
+    let loader = match load_files(alloc, limits, words, desk) {
+        Ok(loader) => loader,
+        Err(outcome) => return without_counts(outcome),
+    };
+    let texts = match pass(alloc, limits, words, loader) {
+        Ok(texts) => texts,
+        Err(outcome) => return without_counts(outcome),
+    };
+    let outcome = write_texts(
+        desk,
+        words.lsr,
+        texts.lsr.as_ref(),
+        words.core,
+        texts.core.as_ref(),
+    );
+    Trimmed {
+        outcome,
+        counts: texts.counts,
+    }
+}
