@@ -1,0 +1,5 @@
+//! What trimming writes: the steps that a backward pass keeps, as a proof by hints in which each clause is deleted after its
+//! last use, and the clauses of the formula that are cited.
+#![tactic(auto)]
+
+mod chains;
