@@ -32,17 +32,6 @@ chain_once links low least head (m ∷ ms) (n ∷ ns) p q x y =
     ap-chain : n ≡ m → IsChain links (n + 1) (get_or links n 0) ns → IsChain links (n + 1) (get_or links m 0) ns
     ap-chain e is = subst (λ k. IsChain links (n + 1) (get_or links k 0) ns) e is
 
-pub chains_once : (links heads : List ℕ) (cs ds : List (List ℕ)) → AreChains links heads cs → AreChains links heads ds → cs ≡ ds
-chains_once links [] [] [] x y = refl
-chains_once links [] [] (d ∷ ds) x y = absurd y
-chains_once links [] (c ∷ cs) ds x y = absurd x
-chains_once links (h ∷ hs) [] ds x y = absurd x
-chains_once links (h ∷ hs) (c ∷ cs) [] x y = absurd y
-chains_once links (h ∷ hs) (c ∷ cs) (d ∷ ds) x y =
-    let first : c ≡ d = chain_once links 1 1 h c d (omega arith) (omega arith) x.0 y.0 in
-    let more : cs ≡ ds = chains_once links hs cs ds x.1 y.1 in
-    cc
-
 pub chains_push : (links heads : List ℕ) (cs : List (List ℕ)) (head : ℕ) (c : List ℕ) → AreChains links heads cs → IsChain links 1 head c → AreChains links (heads ++ head ∷ []) (cs ++ c ∷ [])
 chains_push links [] [] head c all is = (is, tt)
 chains_push links [] (d ∷ ds) head c all is = absurd all
@@ -194,3 +183,16 @@ lists_push links heads i ends numbers ends' numbers' within cut chains (c, chain
       rw (ends_are, long) (ends-push 0 ends (length numbers) (length numbers + length c) cut (omega arith)),
       rw (more, lists) (chains_push links (take i heads) (pieces 0 ends numbers) (get_or heads i 0) c chains chain),
     )
+
+-- the lists of chains, one by one
+pub chains_count : (links heads : List ℕ) (lists : List (List ℕ)) → AreChains links heads lists → length lists ≡ length heads
+chains_count links [] [] all = refl
+chains_count links [] (c ∷ cs) all = absurd all
+chains_count links (h ∷ hs) [] all = absurd all
+chains_count links (h ∷ hs) (c ∷ cs) all = ap suc (chains_count links hs cs all.1)
+
+pub chain_at : (links heads : List ℕ) (lists : List (List ℕ)) (i : ℕ) (c : List ℕ) → AreChains links heads lists → i < length heads → IsChain links 1 (get_or heads i 0) c → get_or lists i [] ≡ c
+chain_at links [] lists i c all h is = absurd (omega arith)
+chain_at links (h ∷ hs) [] i c all l is = absurd all
+chain_at links (h ∷ hs) (d ∷ ds) zero c all l is = chain_once links 1 1 h d c (omega arith) (omega arith) all.0 is
+chain_at links (h ∷ hs) (d ∷ ds) (suc i) c all l is = chain_at links hs ds i c all.1 (omega arith) is

@@ -1,2 +1,5 @@
 pub mod Chaining
 pub mod Using
+pub mod Knowing
+pub mod Ranging
+pub mod Placings

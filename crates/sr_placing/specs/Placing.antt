@@ -1,5 +1,5 @@
 -- What is deleted after which step, and what is cited of the formula.
-use Rattle.std.specs.Prelude.{ℕ, ◌≡◌, List, [], ◌∷◌, ◌++◌, map}
+use Rattle.std.specs.Prelude.{ℕ, ◌+◌, ◌<◌, ◌==◌, not, ◌≡◌, List, [], ◌∷◌, ◌++◌, map, drop, length, slice_index_or, slice_range}
 use Rattle.sr_base.specs.Literal.{Literal}
 use Rattle.sr_model.specs.Chain.{Numbered}
 use Rattle.sr_model.specs.Meeting.{Step}
@@ -8,6 +8,7 @@ use Rattle.sr_trimming.specs.Citing.{cited_of}
 use Rattle.sr_trimming.specs.Placing.{numbers, last_cited, uncited}
 use Rattle.sr_steps.specs.Kept.{Kept, step_of}
 use Rattle.sr_load.specs.Loaded.{LoadedState, all_lines}
+use Rattle.sr_placing.specs.Marks.{numbers_where}
 
 -- the steps that were kept of a loaded proof, with the clauses of its lemmas
 abbrev pub steps_of : LoadedState → List Kept → List Step
@@ -31,3 +32,11 @@ placing_of f ss = record {
   core = numbers (cited_of (numbered_from 1 f) ss);
   drops = drops_from (numbered_from 1 f) ss;
 }
+
+-- numbers parted by marks: those of so many clauses that have none, and those that have one; and for each of so many marks
+-- its numbers
+pub record IsPartedBy (marks : List ℕ) (clauses most : ℕ) (p : PlacingValue) : Type 0 where
+  pub uncited : p.uncited ≡ numbers_where (λ x. x == 0) 1 (slice_range marks 1 (clauses + 1))
+  pub core : p.core ≡ numbers_where (λ x. not (x == 0)) 1 (slice_range marks 1 (clauses + 1))
+  pub count : length p.drops ≡ most
+  pub drops : (i : ℕ) → i < most → slice_index_or p.drops i [] ≡ numbers_where (λ x. x == i + 1) 1 (drop 1 marks)

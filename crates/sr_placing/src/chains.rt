@@ -35,8 +35,26 @@ impl NumberLists {
         piece(&self.numbers, &self.ends, i)
     }
 
+    /// For each head the numbers of its mark, from 1 on and in rising order: the head at index `i` is for the mark `i + 1`. The
+    /// marks are lost.
+    pub fn of_marks(
+        alloc: Global,
+        marks: &mut [ClauseId],
+        heads: &mut [ClauseId],
+    ) -> Result<NumberLists, NoMemory>
+        requires some { 1 ≤ length marks.old }
+        requires few { length marks.old < 2 ^ 32 }
+        requires marks { (n : ℕ) → slice_index marks.old n ≤ length heads.old }
+        requires none { (i : ℕ) → slice_index heads.old i ≡ 0 }
+        ensures count { IfOk result (λ lists. length lists ≡ length heads.old) }
+        ensures lists { IfOk result (λ lists. (i : ℕ) → i < length heads.old → slice_index_or lists i [] ≡ numbers_where (λ x. x == i + 1) 1 (drop 1 marks.old)) }
+    {
+        chain_up(marks, heads);
+        NumberLists::of_chains(alloc, marks, heads)
+    }
+
     /// The lists that chains lead through.
-    pub fn of_chains(
+    fn of_chains(
         alloc: Global,
         links: &[ClauseId],
         heads: &[ClauseId],
@@ -93,7 +111,7 @@ fn push_chain(
 }
 
 /// Chains the numbers of each mark other than 0, in rising order. Mark `i + 1` has the head at index `i`.
-pub fn chain_up(marks: &mut [ClauseId], heads: &mut [ClauseId])
+fn chain_up(marks: &mut [ClauseId], heads: &mut [ClauseId])
     requires some { 1 ≤ length marks.old }
     requires few { length marks.old < 2 ^ 32 }
     requires marks { (n : ℕ) → slice_index marks.old n ≤ length heads.old }

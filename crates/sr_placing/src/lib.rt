@@ -3,4 +3,7 @@
 #![tactic(auto)]
 
 mod chains;
+mod placing;
 mod uses;
+
+pub use placing::Placing;
