@@ -1,3 +1,4 @@
 pub mod Marks
 pub mod Uses
 pub mod Placing
+pub mod Parts

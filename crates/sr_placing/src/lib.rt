@@ -4,6 +4,7 @@
 
 mod chains;
 mod placing;
+mod step;
 mod uses;
 
 pub use placing::Placing;
