@@ -58,7 +58,7 @@ groups_cite_lean live b w (p ∷ ps) (k ∷ gs) g n h = by_test (holds_number n 
     (λ t. lean_cites live (group_start b w p.1) k.1 g.1 n t)
     (λ f. groups_cite_lean live b w ps gs g.2 n (grind arith))
 
-step_cites_lean : (live : Numbered) (s : Step) (o : Option Witness) → IsLeanWith live s o → (n : ℕ) → cites n s ≡ true → holds_number n (numbers live) ≡ true
+pub step_cites_lean : (live : Numbered) (s : Step) (o : Option Witness) → IsLeanWith live s o → (n : ℕ) → cites n s ≡ true → holds_number n (numbers live) ≡ true
 step_cites_lean live s None l n h =
     let none : groups_cite n s.groups ≡ false = ap (groups_cite n) l.1 in
     lean_cites live (compl s.clause) s.prefix l.0 n (grind arith)
@@ -67,7 +67,7 @@ step_cites_lean live s (Some w) l n h =
     groups_cite_lean live (compl s.clause) (substitution w) (filter (λ p. needs_group (compl s.clause) (substitution w) p.1) live) s.groups l.1 n (grind arith)
 
 -- what is needed is below the step
-need_below : (all : Numbered) (s : Step) (later : List Step) (n : ℕ) → holds_number n (numbers (need all s later)) ≡ true → n < s.id
+pub need_below : (all : Numbered) (s : Step) (later : List Step) (n : ℕ) → holds_number n (numbers (need all s later)) ≡ true → n < s.id
 need_below all s later n h =
     let one : (is_cited n (s ∷ later) && holds_number n (numbers (below s.id all))) ≡ true = sym (in_numbers (λ m. is_cited m (s ∷ later)) n (below s.id all)) ∙ h in
     let two : holds_number n (numbers (below s.id all)) ≡ (not (nat_le s.id n) && holds_number n (numbers all)) = in_numbers (λ m. not (nat_le s.id m)) n all in

@@ -5,3 +5,6 @@ pub mod Ranging
 pub mod Placings
 pub mod Lemmas
 pub mod Putting
+pub mod Smallness
+pub mod Laying
+pub mod Ready

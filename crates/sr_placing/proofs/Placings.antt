@@ -252,3 +252,10 @@ pub cited_low : (f : List (List Literal)) (ds : List Done) (ks : List Kept) → 
     → (n : ℕ) → some_cites n ks ≡ true → n < last_id 0 ks
 cited_low f ds [] l c n h = absurd l
 cited_low f ds (k ∷ ks) l c n h = cited_below_last f ds (numbered_from 1 f) (length f) (k ∷ ks) (rise_formula f) l c n h
+
+at_hints : (o : Option Place) (k : Kept) → ((step_at o k).prefix ≡ k.prefix) × ((step_at o k).groups ≡ k.groups)
+at_hints None k = (refl, refl)
+at_hints (Some p) k = (refl, refl)
+
+pub hints_are : (f : List (List Literal)) (ds : List Done) (k : Kept) → ((step_of f ds k).prefix ≡ k.prefix) × ((step_of f ds k).groups ≡ k.groups)
+hints_are f ds k = at_hints (place_of (at_start f) ds k.id) k

@@ -6,5 +6,7 @@ mod chains;
 mod placing;
 mod step;
 mod uses;
+mod write;
 
 pub use placing::Placing;
+pub use write::lsr_bytes;
