@@ -8,3 +8,4 @@ pub mod Putting
 pub mod Smallness
 pub mod Laying
 pub mod Ready
+pub mod Coring

@@ -2,3 +2,4 @@ pub mod Marks
 pub mod Uses
 pub mod Placing
 pub mod Parts
+pub mod Counting

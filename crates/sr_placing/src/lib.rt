@@ -3,10 +3,14 @@
 #![tactic(auto)]
 
 mod chains;
+mod core;
+mod counts;
 mod placing;
 mod step;
 mod uses;
 mod write;
 
+pub use core::core_bytes;
+pub use counts::{Sizes, statistics};
 pub use placing::Placing;
 pub use write::lsr_bytes;
