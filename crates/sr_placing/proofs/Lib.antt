@@ -1,0 +1,11 @@
+pub mod Chaining
+pub mod Using
+pub mod Knowing
+pub mod Ranging
+pub mod Placings
+pub mod Lemmas
+pub mod Putting
+pub mod Smallness
+pub mod Laying
+pub mod Ready
+pub mod Coring

@@ -1,0 +1,5 @@
+pub mod Marks
+pub mod Uses
+pub mod Placing
+pub mod Parts
+pub mod Counting

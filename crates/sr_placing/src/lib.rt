@@ -1,0 +1,16 @@
+//! What trimming writes: the steps that a backward pass keeps, as a proof by hints in which each clause is deleted after its
+//! last use, and the clauses of the formula that are cited.
+#![tactic(auto)]
+
+mod chains;
+mod core;
+mod counts;
+mod placing;
+mod step;
+mod uses;
+mod write;
+
+pub use core::core_bytes;
+pub use counts::{Sizes, statistics};
+pub use placing::Placing;
+pub use write::lsr_bytes;
