@@ -1,5 +1,5 @@
 -- What contracts see of a loaded proof.
-use Rattle.std.specs.Prelude.{ℕ, Bool, true, false, ◌≡◌, Option, Some, None, List, [], ◌∷◌, ◌++◌, All, filter}
+use Rattle.std.specs.Prelude.{ℕ, ◌≤◌, Bool, true, false, ◌≡◌, Option, Some, None, List, [], ◌∷◌, ◌++◌, All, filter}
 use Rattle.sr_base.specs.Literal.{Literal, NoRepeats}
 use Rattle.sr_model.specs.Assignment.{holds_number}
 use Rattle.sr_model.specs.Refutation.{Refutes}
@@ -52,6 +52,8 @@ pub record IsLoaded (st : LoadedState) : Type 0 where
   pub none_assumed : st.assumed ≡ []
   pub pivots : LemmasHavePivots st.standing
   pub distinct : All NoRepeats (clauses (all_in st))
+  -- clause numbers have 31 bits
+  pub small : next_of st ≤ 2147483647
 
 -- one number more is cited
 abbrev pub citing : LoadedState → ℕ → LoadedState

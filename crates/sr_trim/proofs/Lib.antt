@@ -1,3 +1,4 @@
 pub mod Standings
 pub mod Opened
 pub mod Found
+pub mod Passed

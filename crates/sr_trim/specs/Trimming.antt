@@ -53,7 +53,7 @@ trim_counts f ds steps = record {
   clauses = length f;
   core = length (cited_of (numbered_from 1 f) steps);
   lemmas = lemmas_in ds;
-  steps = counted (length steps);
+  steps = length steps;
   hints = counted (sum_by step_hints steps);
   passed = passed_in ds;
 }

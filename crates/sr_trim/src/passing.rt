@@ -1,12 +1,13 @@
-// The pass back through a loaded proof, and the bytes of what is asked for.
+// The pass back through a loaded proof.
 ghost use Rattle.std.specs.Prelude.{◌≡◌};
 ghost use Rattle.sr_trimming.specs.Loading.{at_conflict};
 ghost use Rattle.sr_trim.specs.Said.{trim_said};
 ghost use Rattle.sr_trim.specs.Deciding.{loading};
 ghost use Rattle.sr_trim.specs.Passing.{PassesTo};
 
-use crate::texts::Texts;
+use crate::texts::{Texts, make_texts};
 use crate::words::TrimWords;
+use sr_back::{Back, backward};
 use sr_base::Limits;
 use sr_emit::Outcome;
 use sr_load::Loader;
@@ -22,5 +23,17 @@ pub fn pass(
     requires { loader ≡ record (loading limits.now (trim_said words.now) loader.formula loader.done) { stop = at_conflict } }
     ensures { PassesTo limits.now (trim_said words.now) loader.formula loader.done result }
 {
-    Err(Outcome::NoMemory)
+    let lemmas = loader.lemmas();
+    let passed = loader.passed();
+    let Ok(mut loaded) = loader.finish() else {
+        return Err(Outcome::NoMemory);
+    };
+    match backward(alloc, &mut loaded) {
+        Err(_) => Err(Outcome::NoMemory),
+        Ok(Back::Failed { lemma, against }) => Err(Outcome::RejectedLemma {
+            lemma,
+            against: Some(against),
+        }),
+        Ok(Back::Done(steps)) => make_texts(alloc, limits, words, &loaded, &steps, lemmas, passed),
+    }
 }

@@ -1,0 +1,6 @@
+//! The backward pass.
+#![tactic(auto)]
+
+mod passing;
+
+pub use passing::{Back, backward};
