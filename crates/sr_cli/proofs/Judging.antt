@@ -1,31 +1,24 @@
 -- From the parts of `check` to what it answers.
-use Rattle.std.proofs.Common.{◌≡◌, ◌≢◌, ◌∙◌, ◌⊎◌, inl, inr, ◌≤◌, ◌<◌, ℕ, Bool, true, false, List, [], ◌++◌, Option, Some, None, refl, sym, ap, subst, arith}
-use Rattle.std.specs.Prelude.{nat_lt, IfSome, option_map}
+use Rattle.std.proofs.Common.{◌≡◌, ◌∙◌, ◌⊎◌, inl, inr, ◌≤◌, ℕ, Bool, false, List, refl, sym, ap, subst, arith}
+use Rattle.std.specs.Prelude.{nat_lt}
 use Rattle.std.proofs.lemmas.Bool.Decides.{nat_tests}
 use Rattle.sr_base.specs.Literal.{Literal}
 use Rattle.sr_base.specs.Limits.{LimitValues}
-use Rattle.sr_base.specs.Contents as contents
-use Rattle.sr_base.specs.Contents.{Contents, Ending, whole}
+use Rattle.sr_base.specs.Contents.{Contents}
 use Rattle.sr_base.specs.declared.names.Form.{Form}
 use Rattle.sr_base.specs.declared.names.Which.TheVariants as which
-use Rattle.sr_base.specs.declared.names.InputError.{InputError}
-use Rattle.sr_base.specs.declared.names.InputError.TheVariants as fault
-use Rattle.sr_model.specs.Reading.{Read}
 use Rattle.sr_model.specs.Refutation.{has_empty}
 use Rattle.sr_model.specs.Chain.{clauses}
 use Rattle.sr_model.specs.Judging.{cells_of, start}
-use Rattle.sr_model.specs.Dimacs.{Formula}
 use Rattle.sr_model.specs.LsrBinary.{item_tokens}
 use Rattle.sr_model.proofs.Judged.{clauses_numbered}
-use Rattle.sr_desk.specs.Outside.{Outside, SlotState, Agrees, Rose, OnlyReads, source}
+use Rattle.sr_desk.specs.Outside.{Outside, Agrees, OnlyReads}
 use Rattle.sr_check.specs.Checking.{Checking}
-use Rattle.sr_scan.specs.Left.{Refuses}
 use Rattle.sr_emit.specs.declared.outcome.Outcome.{Outcome}
 use Rattle.sr_emit.specs.declared.outcome.Outcome.TheVariants as outcome
-use Rattle.sr_emit.specs.declared.counts.Counts.{Counts}
 use Rattle.sr_files.proofs.Reading.{later_rose, reads_on, opened_on, opened_gives}
-use Rattle.sr_files.specs.Files.{IsOnlyRead, ReadsSlots, Opened, GivesFile, IsUnread, outcome_by}
-use Rattle.sr_cli.specs.Check.{ByProof, ByClauses, ByFormula, counts_of}
+use Rattle.sr_files.specs.Files.{ReadsSlots, Opened}
+use Rattle.sr_cli.specs.Check.{ByProof, ByClauses}
 use Rattle.sr_cli.specs.Runs.{JudgesFormula, HasFileCause, HasProofCause, counts_by}
 use Rattle.sr_cli.specs.declared.proof.Tally.{Tally}
 use Rattle.sr_cli.specs.declared.check.Checked.{Checked}

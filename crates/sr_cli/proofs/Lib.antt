@@ -5,3 +5,6 @@ pub mod Judging
 pub mod Opening
 pub mod Refuted
 pub mod Printing
+pub mod Touched
+pub mod Trimmed
+pub mod Dispatch

@@ -1,10 +1,10 @@
 -- What a reader gives that begins a file, and what a file gives that couldn't be begun.
-use Rattle.std.proofs.Common.{◌≡◌, ◌∙◌, ◌⊎◌, inl, inr, ◌-◌, ◌≤◌, ◌<◌, ℕ, Bool, true, false, cond, List, [], Option, Some, None, Ok, Err, refl, sym, ap, subst, arith}
-use Rattle.std.specs.Prelude.{nat_le, nat_lt, Result}
+use Rattle.std.proofs.Common.{◌≡◌, ◌⊎◌, inl, inr, ◌-◌, ◌≤◌, ℕ, Bool, true, false, List, [], Ok, refl, sym, subst, arith}
+use Rattle.std.specs.Prelude.{nat_lt}
 use Rattle.std.proofs.lemmas.Bool.Decides.{nat_tests}
 use Rattle.sr_base.specs.Literal.{Literal}
 use Rattle.sr_base.specs.Limits.{LimitValues}
-use Rattle.sr_base.specs.Contents.{Contents, failed}
+use Rattle.sr_base.specs.Contents.{Contents}
 use Rattle.sr_base.specs.declared.names.Form.{Form}
 use Rattle.sr_base.specs.declared.names.Form.TheVariants as form
 use Rattle.sr_base.specs.declared.names.Which.TheVariants as which
@@ -12,8 +12,7 @@ use Rattle.sr_base.specs.declared.names.InputError.{InputError}
 use Rattle.sr_base.specs.declared.names.InputError.TheVariants as fault
 use Rattle.sr_model.specs.Tokens.{Tokens, lost}
 use Rattle.sr_model.specs.Reading.{Read, fails}
-use Rattle.sr_model.specs.TextTokens.{spelled, spelled_from}
-use Rattle.sr_model.specs.BinaryTokens.{spelled_binary, binary_from}
+use Rattle.sr_model.specs.TextTokens.{spelled}
 use Rattle.sr_model.specs.Refutation.{has_empty}
 use Rattle.sr_model.specs.Judging.{cells_of}
 use Rattle.sr_model.specs.Dimacs.{Formula, formula_at}
@@ -21,12 +20,12 @@ use Rattle.sr_model.specs.Lsr.{MaybeItem, item_at}
 use Rattle.sr_model.specs.LsrBinary.{item_in, item_tokens, binary_item_at}
 use Rattle.sr_desk.specs.Outside.{Outside, SlotState, Agrees, Rose}
 use Rattle.sr_desk.specs.Reader.{Reader}
-use Rattle.sr_scan.specs.Left.{text_left, tokens_left, Gives, Refuses, is_source}
+use Rattle.sr_scan.specs.Left.{tokens_left, Refuses, is_source}
 use Rattle.sr_emit.specs.declared.outcome.Outcome.{Outcome}
 use Rattle.sr_emit.specs.declared.outcome.Outcome.TheVariants as outcome
 use Rattle.sr_emit.specs.declared.counts.Counts.{Counts}
 use Rattle.sr_cli.specs.Words.{Said}
-use Rattle.sr_files.proofs.Reading.{fresh_text, reads_front, unread_text, unread_bytes, unread_formula, unread_agrees}
+use Rattle.sr_files.proofs.Reading.{fresh_text, unread_text, unread_bytes}
 use Rattle.sr_files.specs.Files.{fresh, ReadsSlots, ReadsFiles, GivesFile, IsUnread, IsCallFault, ReadsFront, outcome_by}
 use Rattle.sr_cli.specs.Check.{ByProof, ByClauses, ByFormula, IsFirst, EndsAt, counts_of}
 use Rattle.sr_cli.specs.Runs.{Judges, JudgesFormula, HasProofCause, counts_by}

@@ -1,5 +1,5 @@
 -- Printing that stops, and what a run then answers.
-use Rattle.std.proofs.Common.{◌≡◌, ◌≢◌, ◌∙◌, ◌⊎◌, inl, inr, ℕ, ◌≤◌, ◌<◌, List, [], ◌++◌, Option, Some, None, Err, refl, sym, ap, subst, arith, lit≤}
+use Rattle.std.proofs.Common.{◌≡◌, ◌∙◌, ◌⊎◌, inl, inr, ℕ, List, [], ◌++◌, Option, Some, None, Err, refl, sym, ap, subst, arith, lit≤}
 use Rattle.std.specs.Prelude.{if◌then◌else◌}
 use Rattle.std.proofs.lemmas.List.{append-nil}
 use Rattle.sr_base.specs.Limits.{LimitValues}
@@ -13,10 +13,10 @@ use Rattle.sr_emit.specs.declared.outcome.Outcome.{Outcome}
 use Rattle.sr_emit.specs.declared.outcome.Outcome.TheVariants as outcome
 use Rattle.sr_emit.specs.declared.outcome.UsageKind.{UsageKind}
 use Rattle.sr_emit.specs.declared.counts.Counts.{Counts}
-use Rattle.sr_cli.specs.Words.{Said, Asked, refused, checks}
-use Rattle.sr_files.specs.Files.{ReadsSlots, ReadsFiles, HasReadCause}
+use Rattle.sr_cli.specs.Words.{Said, ReadOnly, refused, checks}
+use Rattle.sr_files.specs.Files.{ReadsFiles, HasReadCause}
 use Rattle.sr_cli.specs.Check.{IsFirst}
-use Rattle.sr_cli.specs.Run.{OnlyPrints, IsPrinted, IsCutShort, Reports, Runs}
+use Rattle.sr_cli.specs.Run.{OnlyPrints, IsCutShort, Reports, RunsReadOnly}
 
 -- bytes that were sent stay sent where the slot is then finished
 sent_at_end : {E : Type 0} (bytes : List ℕ) (o0 o1 o2 : Outside) (e : E) → Sends (o0.slot 8) (o1.slot 8) bytes → Finishes 8 o1 o2 (Err e) → Sends (o0.slot 8) (o2.slot 8) bytes
@@ -58,13 +58,13 @@ none : Counts
 none = record { clauses = 0; core = 0; lemmas = 0; steps = 0; hints = 0; passed = 0 }
 
 -- where memory runs out nothing is found
-pub runs_out : (lim : LimitValues) (a : Asked) (o : Outside) → Runs lim a o o outcome.NoMemory
+pub runs_out : (lim : LimitValues) (a : ReadOnly) (o : Outside) → RunsReadOnly lim a o o outcome.NoMemory
 runs_out lim a o = record { found = outcome.NoMemory; counts = none; finds = inl refl; cause = tt; reports = inl (refl, refl) }
 
 -- words that are refused
-pub runs_refused : (lim : LimitValues) (a : Asked) (kind : UsageKind) (old new : Outside) (answered : Outcome) → a ≡ refused kind → old.begun ≡ 0 → OnlyPrints old new
-    → Reports (report command.Other None (outcome.Usage kind)) old new (outcome.Usage kind) answered → Runs lim a old new answered
-runs_refused lim a kind old new answered e zero only r = subst (λ x. Runs lim x old new answered) (sym e) (record {
+pub runs_refused : (lim : LimitValues) (a : ReadOnly) (kind : UsageKind) (old new : Outside) (answered : Outcome) → a ≡ refused kind → old.begun ≡ 0 → OnlyPrints old new
+    → Reports (report command.Other None (outcome.Usage kind)) old new (outcome.Usage kind) answered → RunsReadOnly lim a old new answered
+runs_refused lim a kind old new answered e zero only r = subst (λ x. RunsReadOnly lim x old new answered) (sym e) (record {
   found = outcome.Usage kind;
   counts = none;
   finds = inr (λ formula proof f p. (refl, only.begun ∙ zero));
@@ -93,7 +93,7 @@ cause_on old mid new outcome.NoMemory only h = tt
 pub runs_check : (lim : LimitValues) (s : Said) (old mid new : Outside) (found answered : Outcome) (k : Counts) (shown : Option Counts) → ReadsFiles old mid
     → (found ≡ outcome.NoMemory) ⊎ ((formula proof : Contents) → Agrees (mid.slot 0) formula → Agrees (mid.slot 1) proof → IsFirst lim s formula proof found k mid.begun)
     → HasReadCause old mid found → OnlyPrints mid new → shown ≡ (if s.stats then Some k else None) → Reports (report command.Check shown found) mid new found answered
-    → Runs lim (checks s) old new answered
+    → RunsReadOnly lim (checks s) old new answered
 runs_check lim s old mid new found answered k shown slots finds cause only is r = record {
   found = found;
   counts = k;

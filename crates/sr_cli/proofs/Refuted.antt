@@ -1,6 +1,6 @@
 -- What is verified is refuted: no assignment satisfies the formula.
-use Rattle.std.proofs.Common.{◌≡◌, ◌∙◌, ◌⊎◌, inl, inr, ℕ, ◌+◌, length, arith, length-append, Bool, true, false, cond, List, [], ◌∷◌, ◌++◌, Option, Some, None, refl, sym, ap, subst}
-use Rattle.std.specs.Prelude.{nat_lt, IfSome}
+use Rattle.std.proofs.Common.{◌≡◌, ◌∙◌, inl, inr, ℕ, ◌+◌, length, arith, length-append, Bool, true, false, cond, List, [], ◌∷◌, ◌++◌, Option, Some, None, refl, sym, ap, subst}
+use Rattle.std.specs.Prelude.{nat_lt}
 use Rattle.std.proofs.lemmas.List.{append-nil}
 use Rattle.sr_base.specs.Literal.{Literal}
 use Rattle.sr_base.specs.Limits.{LimitValues}
@@ -29,11 +29,11 @@ use Rattle.sr_emit.specs.Status.{is_verified}
 use Rattle.sr_emit.specs.declared.outcome.Outcome.{Outcome}
 use Rattle.sr_emit.specs.declared.outcome.Outcome.TheVariants as outcome
 use Rattle.sr_emit.specs.declared.counts.Counts.{Counts}
-use Rattle.sr_cli.specs.Words.{Asked, refused, checks}
+use Rattle.sr_cli.specs.Words.{ReadOnly, refused, checks}
 use Rattle.sr_cli.specs.Check.{grows_past, by_item, by_meeting, EndsAt, ByProof, ByClauses, ByFormula}
 use Rattle.sr_emit.specs.Report.{report}
 use Rattle.sr_emit.proofs.Verified.{says_so}
-use Rattle.sr_cli.specs.Run.{IsEvent, Finds, IsRefuted, IsSound, SaysSo, Runs, Reports, command_of, counts_asked}
+use Rattle.sr_cli.specs.Run.{IsEvent, Finds, IsRefuted, IsSound, SaysSo, RunsReadOnly, Reports, command_of, counts_asked}
 use Rattle.sr_emit.specs.Report.{verified_line}
 use Rattle.sr_cli.proofs.Standing.{judged_append}
 
@@ -86,25 +86,25 @@ formula_refutes lim form strict proof ts k begun by = at (formula_at lim ts) ref
     at fails e h = let bad = h.0 in absurd cc
 
 -- some contents agree with a slot
-agrees_some : (s : SlotState) → (c : Contents) × Agrees s c
+pub agrees_some : (s : SlotState) → (c : Contents) × Agrees s c
 agrees_some s = at s.ending refl
   where
     at : (e : Option Ending) → s.ending ≡ e → (c : Contents) × Agrees s c
     at None e = (record { bytes = s.given ++ []; ending = ended }, record { more = []; bytes = refl; ending = rw e tt })
     at (Some x) e = (record { bytes = s.given ++ []; ending = x }, record { more = []; bytes = refl; ending = rw e (refl, refl) })
 
-event_refutes : (lim : LimitValues) (a : Asked) (new : Outside) (k : Counts) → ((formula proof : Contents) → Agrees (new.slot 0) formula → Agrees (new.slot 1) proof → IsEvent lim a formula proof outcome.Verified k new.begun)
+event_refutes : (lim : LimitValues) (a : ReadOnly) (new : Outside) (k : Counts) → ((formula proof : Contents) → Agrees (new.slot 0) formula → Agrees (new.slot 1) proof → IsEvent lim a formula proof outcome.Verified k new.begun)
     → IsRefuted lim new
 event_refutes lim (refused kind) new k by c h = let some = agrees_some (new.slot 1) in let bad = (by c some.0 h some.1).0 in absurd cc
 event_refutes lim (checks s) new k by c h = let some = agrees_some (new.slot 1) in formula_refutes lim s.proof_form s.strict some.0 (spelled lim.bytes c) k new.begun (by c some.0 h some.1)
 
 -- what is found as verified
-pub found_refutes : (lim : LimitValues) (a : Asked) (new : Outside) (found : Outcome) (k : Counts) → Finds lim a new found k → found ≡ outcome.Verified → IsRefuted lim new
+pub found_refutes : (lim : LimitValues) (a : ReadOnly) (new : Outside) (found : Outcome) (k : Counts) → Finds lim a new found k → found ≡ outcome.Verified → IsRefuted lim new
 found_refutes lim a new found k (inl e) v = let bad : outcome.NoMemory ≡ outcome.Verified = sym e ∙ v in absurd cc
 found_refutes lim a new found k (inr by) v =
     event_refutes lim a new k (λ formula proof f p. subst (λ (o : Outcome). IsEvent lim a formula proof o k new.begun) v (by formula proof f p))
 
-verified_is : (o : Outcome) → is_verified o ≡ true → o ≡ outcome.Verified
+pub verified_is : (o : Outcome) → is_verified o ≡ true → o ≡ outcome.Verified
 verified_is outcome.Verified v = refl
 verified_is (outcome.RejectedStep id x) v = cc
 verified_is (outcome.RejectedLemma id x) v = cc
@@ -117,7 +117,7 @@ verified_is (outcome.SinkFault w) v = cc
 verified_is outcome.NoMemory v = cc
 
 -- what is answered as verified was found
-pub runs_sound : (lim : LimitValues) (a : Asked) (old new : Outside) (answered : Outcome) → Runs lim a old new answered → IsSound lim new answered
+pub runs_sound : (lim : LimitValues) (a : ReadOnly) (old new : Outside) (answered : Outcome) → RunsReadOnly lim a old new answered → IsSound lim new answered
 runs_sound lim a old new answered r v = at r.reports
   where
     is : answered ≡ outcome.Verified
@@ -128,12 +128,12 @@ runs_sound lim a old new answered r v = at r.reports
     at (inr (inl h)) = found_refutes lim a new r.found r.counts r.finds (sym h.0 ∙ is)
     at (inr (inr h)) = let bad : outcome.SinkFault which.Report ≡ outcome.Verified = sym h.0 ∙ is in absurd cc
 
-cancel : (xs ys zs : List ℕ) → xs ++ ys ≡ xs ++ zs → ys ≡ zs
+pub cancel : (xs ys zs : List ℕ) → xs ++ ys ≡ xs ++ zs → ys ≡ zs
 cancel [] ys zs e = e
 cancel (x ∷ xs) ys zs e = cancel xs ys zs (cc)
 
 -- and what is printed as verified
-pub runs_say_so : (lim : LimitValues) (a : Asked) (old new : Outside) (answered : Outcome) → Runs lim a old new answered → SaysSo lim old new
+pub runs_say_so : (lim : LimitValues) (a : ReadOnly) (old new : Outside) (answered : Outcome) → RunsReadOnly lim a old new answered → SaysSo lim old new
 runs_say_so lim a old new answered r front sent = at r.reports
   where
     told : (rest : List ℕ) → report (command_of a) (counts_asked a r.counts) r.found ≡ (front ++ verified_line) ++ rest → IsRefuted lim new

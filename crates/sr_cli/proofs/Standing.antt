@@ -1,5 +1,5 @@
 -- Where judging stands, from item to item.
-use Rattle.std.proofs.Common.{◌≡◌, ◌∙◌, ◌⊎◌, inl, inr, ℕ, ◌+◌, Bool, true, false, cond, List, [], ◌∷◌, ◌++◌, Option, Some, None, Ok, Err, refl, sym, ap, subst, arith}
+use Rattle.std.proofs.Common.{◌≡◌, ◌∙◌, inl, inr, ℕ, ◌+◌, Bool, true, false, List, [], ◌∷◌, ◌++◌, Option, Some, None, Ok, Err, refl, sym, ap, subst, arith}
 use Rattle.std.specs.Prelude.{Result}
 use Rattle.std.proofs.lemmas.List.Sums.{sum_by-append}
 use Rattle.sr_base.specs.Literal.{Literal}
@@ -7,7 +7,6 @@ use Rattle.sr_base.specs.Limits.{LimitValues}
 use Rattle.sr_base.specs.Contents.{Contents}
 use Rattle.sr_base.specs.declared.names.Form.{Form}
 use Rattle.sr_base.specs.declared.names.Which.TheVariants as which
-use Rattle.sr_base.specs.declared.names.LimitKind.TheVariants.{Cells}
 use Rattle.sr_base.specs.declared.names.InputError.{InputError}
 use Rattle.sr_base.specs.declared.names.InputError.TheVariants as fault
 use Rattle.sr_model.specs.Tokens.{Tokens}
@@ -27,7 +26,6 @@ use Rattle.sr_check.specs.Checking.{Checking}
 use Rattle.sr_wit.specs.LsrItems.{item_of}
 use Rattle.sr_wit.specs.declared.item.LsrItem.{LsrItem}
 use Rattle.sr_lsr.specs.Reads.{item_told}
-use Rattle.sr_emit.specs.declared.counts.Counts.{Counts}
 use Rattle.sr_emit.specs.declared.outcome.Outcome.{Outcome}
 use Rattle.sr_emit.specs.declared.outcome.Outcome.TheVariants as outcome
 use Rattle.sr_files.specs.Files.{outcome_by}

@@ -1,15 +1,15 @@
--- When the words of `check` are taken.
+-- When the words of a command are taken.
 use Rattle.std.proofs.Common.{◌≡◌, ◌≢◌, ◌∙◌, ◌&&◌, inl, inr, refl, Bool, true, false, List, [], ◌∷◌, None, Err, ap, sym}
 use Rattle.clap.specs.Words.{App, Row, Text, Kinds, HasKind, kind_of, is_simple, is_simple_and_free, fault_of, matches_of}
 use Rattle.clap.specs.declared.error.Error.{Error}
 use Rattle.clap.specs.declared.error.kind.ErrorKind.TheVariants.{OutOfMemory}
 use Rattle.clap.proofs.OnLiterals.{clap_on_literals}
-use Rattle.sr_cli.specs.Commands.{check_app}
+use Rattle.sr_cli.specs.Commands.{check_app, trim_app}
 use Rattle.clap.specs.Simple.{built}
 use Rattle.clap.specs.Faults.{is_free_app}
 use Rattle.sr_cli.specs.declared.words.WordsError.{WordsError}
 use Rattle.sr_cli.specs.declared.words.WordsError.TheVariants.{Refused, NoMemory}
-use Rattle.sr_cli.specs.Words.{said_by, said_where, check_said, Matches, Says}
+use Rattle.sr_cli.specs.Words.{said_by, said_where, check_said, trim_by, trim_where, trim_words, Matches, Says, SaysTrim}
 
 pub is_simple-check : is_simple_and_free check_app ≡ true
 unfolding clap_on_literals
@@ -47,3 +47,28 @@ pub said_refused : (a : App) (words : List Text) (stop : WordsError) → a ≡ c
 said_refused a words (Refused kind) e m =
     (said_where-none (fault_of check_app words) (matches_of check_app words) (λ f. m.0 (ap (λ (x : App). fault_of x words) e ∙ f)), m.1)
 said_refused a words NoMemory e m = tt
+
+pub is_simple-trim : is_simple_and_free trim_app ≡ true
+unfolding clap_on_literals
+is_simple-trim = refl
+
+-- the same of the words of `trim`
+trim_where-none : (kinds : Kinds) (rows : List Row) → kinds ≢ [] → trim_where kinds rows ≡ None
+trim_where-none [] rows ne = absurd (ne refl)
+trim_where-none (k ∷ ks) rows ne = refl
+
+trim_where-some : (kinds : Kinds) (rows : List Row) → kinds ≡ [] → trim_where kinds rows ≡ trim_by rows
+trim_where-some [] rows e = refl
+trim_where-some (k ∷ ks) rows e = cc
+
+pub trim_taken : (a : App) (words : List Text) (rows : List Row) → a ≡ trim_app → fault_of a words ≡ [] → rows ≡ matches_of a words
+    → trim_words words ≡ trim_by rows
+trim_taken a words rows e f m =
+    trim_where-some (fault_of trim_app words) (matches_of trim_app words) (ap (λ (x : App). fault_of x words) (sym e) ∙ f)
+    ∙ ap trim_by (ap (λ (x : App). matches_of x words) (sym e) ∙ sym m)
+
+pub trim_refused : (a : App) (words : List Text) (stop : WordsError) → a ≡ trim_app
+    → Matches (fault_of a words) (matches_of a words) (Err stop) → SaysTrim (trim_words words) (Err stop)
+trim_refused a words (Refused kind) e m =
+    (trim_where-none (fault_of trim_app words) (matches_of trim_app words) (λ f. m.0 (ap (λ (x : App). fault_of x words) e ∙ f)), m.1)
+trim_refused a words NoMemory e m = tt

@@ -1,7 +1,7 @@
 -- What `check` answers on two files: the first of these events. The formula isn't spelled, or a read of it fails; its clauses pass the
 -- limit of cells; it holds the empty clause; an item of the proof isn't spelled, or a read of it fails, or it isn't met, is the empty
 -- clause, or adds a clause that passes the limit of cells; the proof ends.
-use Rattle.std.specs.Prelude.{◌≡◌, ℕ, ◌+◌, ◌-◌, ◌^◌, min, nat_lt, ◌&&◌, not, Bool, true, false, cond, List, [], ◌∷◌, ◌++◌, length, sum_by, Option, Some, None}
+use Rattle.std.specs.Prelude.{◌≡◌, ℕ, ◌+◌, ◌-◌, ◌^◌, min, nat_lt, ◌&&◌, not, Bool, false, cond, List, [], ◌∷◌, ◌++◌, length, sum_by, Option, Some, None}
 use Rattle.sr_base.specs.Literal.{Literal}
 use Rattle.sr_base.specs.Limits.{LimitValues}
 use Rattle.sr_base.specs.Contents.{Contents}

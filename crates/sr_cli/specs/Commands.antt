@@ -21,3 +21,12 @@ abbrev pub check_app : App
 check_app = with_rule (with_rule (with_rule (with_rule (with_rule (bare_app (codes "check"))
     (positional_rule (codes "FORMULA"))) (positional_rule (codes "PROOF")))
     (option_rule (codes "proof-form"))) (flag_rule (codes "strict"))) (flag_rule (codes "stats"))
+
+-- the files of `trim` and the form of its proof
+abbrev pub trim_files_app : App
+trim_files_app = with_rule (with_rule (with_rule (with_rule (bare_app (codes "trim"))
+    (positional_rule (codes "FORMULA"))) (positional_rule (codes "PROOF"))) (option_rule (codes "proof-form"))) (option_rule (codes "lsr"))
+
+abbrev pub trim_app : App
+trim_app = with_rule (with_rule (with_rule (with_rule trim_files_app
+    (option_rule (codes "lsr-form"))) (option_rule (codes "core"))) (flag_rule (codes "keep-units"))) (flag_rule (codes "stats"))

@@ -1,5 +1,5 @@
 -- What a run does and answers, from its words to what it leaves.
-use Rattle.std.specs.Prelude.{◌≡◌, ◌≢◌, ◌⊎◌, ℕ, ◌≤◌, ◌<◌, true, List, [], ◌∷◌, ◌++◌, Option, Some, None, codes, if◌then◌else◌}
+use Rattle.std.specs.Prelude.{cond, ◌≡◌, ◌≢◌, ◌⊎◌, ℕ, ◌-◌, ◌≤◌, ◌<◌, Bool, true, false, List, ◌++◌, Option, Some, None, if◌then◌else◌}
 use Rattle.sr_base.specs.Limits.{LimitValues}
 use Rattle.sr_base.specs.Contents.{Contents}
 use Rattle.sr_base.specs.declared.names.Which.TheVariants as which
@@ -17,7 +17,9 @@ use Rattle.sr_emit.specs.declared.report.Command.TheVariants as command
 use Rattle.sr_emit.specs.declared.outcome.Outcome.{Outcome}
 use Rattle.sr_emit.specs.declared.outcome.Outcome.TheVariants as outcome
 use Rattle.sr_emit.specs.declared.counts.Counts.{Counts}
-use Rattle.sr_cli.specs.Words.{Asked, refused, checks}
+use Rattle.sr_trim.specs.Said.{TrimSaid}
+use Rattle.sr_trim.specs.Finding as trim
+use Rattle.sr_cli.specs.Words.{ReadOnly, refused, checks, Asked, only_reads, trims}
 use Rattle.sr_files.specs.Files.{GivesFile, HasReadCause}
 use Rattle.sr_cli.specs.Check.{IsFirst}
 
@@ -45,30 +47,53 @@ Reports bytes old new found answered = ((answered ≡ outcome.NoMemory) × (new.
     ⊎ ((answered ≡ outcome.SinkFault which.Report) × IsCutShort bytes old new)
 
 -- the event that the words and two files of such contents have, with the counts, and with as many files as are begun for it
-abbrev pub IsEvent : LimitValues → Asked → Contents → Contents → Outcome → Counts → ℕ → Type 0
+abbrev pub IsEvent : LimitValues → ReadOnly → Contents → Contents → Outcome → Counts → ℕ → Type 0
 IsEvent lim (refused kind) formula proof o k begun = (o ≡ outcome.Usage kind) × (begun ≡ 0)
 IsEvent lim (checks s) formula proof o k begun = IsFirst lim s formula proof o k begun
 
 -- memory ran out, or this is the event of all files with which what the slots 0 and 1 gave agrees
-abbrev pub Finds : LimitValues → Asked → Outside → Outcome → Counts → Type 0
+abbrev pub Finds : LimitValues → ReadOnly → Outside → Outcome → Counts → Type 0
 Finds lim a new o k = (o ≡ outcome.NoMemory)
     ⊎ ((formula proof : Contents) → Agrees (new.slot 0) formula → Agrees (new.slot 1) proof → IsEvent lim a formula proof o k new.begun)
 
-abbrev pub counts_asked : Asked → Counts → Option Counts
+abbrev pub counts_asked : ReadOnly → Counts → Option Counts
 counts_asked (refused kind) k = None
 counts_asked (checks s) k = if s.stats then Some k else None
 
-abbrev pub command_of : Asked → Command
+abbrev pub command_of : ReadOnly → Command
 command_of (refused kind) = command.Other
 command_of (checks s) = command.Check
 
 -- something was found, and reported; where that is a failed read, its count rose
-pub record Runs (lim : LimitValues) (a : Asked) (old new : Outside) (answered : Outcome) : Type 0 where
+pub record RunsReadOnly (lim : LimitValues) (a : ReadOnly) (old new : Outside) (answered : Outcome) : Type 0 where
   pub found : Outcome
   pub counts : Counts
   pub finds : Finds lim a new found counts
   pub cause : HasReadCause old new found
   pub reports : Reports (report (command_of a) (counts_asked a counts) found) old new found answered
+
+-- a fault of a file that is written, and out of memory, aren't reported
+abbrev pub is_unreported : Outcome → Bool
+is_unreported (outcome.SinkFault w) = true
+is_unreported outcome.NoMemory = true
+is_unreported o = false
+
+abbrev pub ReportsTrim : List ℕ → Outside → Outside → Outcome → Outcome → Type 0
+ReportsTrim bytes mid new found answered = cond (is_unreported found) ((answered ≡ found) × (new ≡ mid))
+    (OnlyPrints mid new × Reports bytes mid new found answered)
+
+-- up to `mid` the files were read and written, and then what was found is reported
+pub record RunsTrim (lim : LimitValues) (s : TrimSaid) (old new : Outside) (answered : Outcome) : Type 0 where
+  pub found : Outcome
+  pub counts : Counts
+  pub mid : Outside
+  pub finds : trim.Finds lim s old mid found counts
+  pub reports : ReportsTrim (report command.Trim (if s.stats then Some counts else None) found) mid new found answered
+
+-- what a run does that is asked for this
+abbrev pub Runs : LimitValues → Asked → Outside → Outside → Outcome → Type 0
+Runs lim (only_reads a) old new answered = RunsReadOnly lim a old new answered
+Runs lim (trims s) old new answered = RunsTrim lim s old new answered
 
 -- what the formula's slot gave spells a formula that no assignment satisfies, whatever its file has beyond
 abbrev pub IsRefuted : LimitValues → Outside → Type 0
@@ -83,24 +108,41 @@ IsSound lim new o = is_verified o ≡ true → IsRefuted lim new
 abbrev pub SaysSo : LimitValues → Outside → Outside → Type 0
 SaysSo lim old new = (front : List ℕ) → (new.slot 8).sent ≡ (old.slot 8).sent ++ (front ++ verified_line) → IsRefuted lim new
 
--- a fault of the outside comes only where the count of its slot rose, with so many files begun
+-- a fault of the outside comes only where the count of its slot rose: the formula has the first slot, the proof the second one, a
+-- file that is written the last one that was begun
 abbrev pub HasRunCause : Outside → Outside → Outcome → Type 0
 HasRunCause old new (outcome.SinkFault which.Report) = Rose (old.slot 8).faults (new.slot 8).faults
+HasRunCause old new (outcome.SinkFault which.Lsr) = Rose (old.slot (new.begun - 1)).faults (new.slot (new.begun - 1)).faults
+HasRunCause old new (outcome.SinkFault which.Core) = Rose (old.slot (new.begun - 1)).faults (new.slot (new.begun - 1)).faults
 HasRunCause old new o = HasReadCause old new o
 
 -- known files are read as they are
-abbrev pub GivesFiles : Asked → Outside → Outside → Type 0
-GivesFiles (refused kind) old new = Unit {0}
-GivesFiles (checks s) old new = (1 ≤ new.begun → GivesFile 0 s.formula old new) × (2 ≤ new.begun → GivesFile 1 s.proof old new)
+abbrev pub GivesReadOnly : ReadOnly → Outside → Outside → Type 0
+GivesReadOnly (refused kind) old new = Unit {0}
+GivesReadOnly (checks s) old new = (1 ≤ new.begun → GivesFile 0 s.formula old new) × (2 ≤ new.begun → GivesFile 1 s.proof old new)
 
 -- how many files are begun at most
-abbrev pub most_begun : Asked → ℕ
+abbrev pub most_begun : ReadOnly → ℕ
 most_begun (refused kind) = 0
 most_begun (checks s) = 2
 
 -- so many files at most were begun, all for reading; the other slots but standard output and all files are as they were
-pub record OnlyReadsFiles (a : Asked) (old new : Outside) : Type 0 where
+pub record OnlyReadsFiles (a : ReadOnly) (old new : Outside) : Type 0 where
   pub begun : new.begun ≤ most_begun a
   pub file : new.file ≡ old.file
   pub unread : (k : ℕ) → new.begun ≤ k → k ≢ 8 → new.slot k ≡ old.slot k
   pub writes : (k : ℕ) → k < 8 → (new.slot k).writes ≡ (old.slot k).writes
+
+-- the files of a run that writes some: the formula and the proof, where they were read
+abbrev pub GivesFiles : Asked → Outside → Outside → Type 0
+GivesFiles (only_reads a) old new = GivesReadOnly a old new
+GivesFiles (trims s) old new = 1 ≤ new.begun → GivesFile 0 s.formula old new
+
+-- no file is written but those that are named for it, as far as the names of slots are known
+pub record OnlyTrims (s : TrimSaid) (old new : Outside) : Type 0 where
+  pub begun : new.begun ≤ 4
+  pub unread : (k : ℕ) → new.begun ≤ k → k ≢ 8 → new.slot k ≡ old.slot k
+
+abbrev pub OnlyTouches : Asked → Outside → Outside → Type 0
+OnlyTouches (only_reads a) old new = OnlyReadsFiles a old new
+OnlyTouches (trims s) old new = OnlyTrims s old new

@@ -1,5 +1,5 @@
 -- What the parts of a run promise to one another.
-use Rattle.std.specs.Prelude.{◌≡◌, ◌⊎◌, ℕ, ◌+◌, ◌≤◌, Bool, true, List, length, Option, Some, None}
+use Rattle.std.specs.Prelude.{◌≡◌, ◌⊎◌, ℕ, ◌+◌, ◌≤◌, Bool, List, length, Option, Some, None}
 use Rattle.sr_base.specs.Literal.{Literal}
 use Rattle.sr_base.specs.Limits.{LimitValues}
 use Rattle.sr_base.specs.Contents.{Contents}

@@ -1,5 +1,5 @@
 -- What the words of a command line ask for.
-use Rattle.std.specs.Prelude.{◌≡◌, ◌≢◌, Bool, false, List, [], ◌∷◌, Option, Some, None, Result, Ok, Err, codes, if◌then◌else◌}
+use Rattle.std.specs.Prelude.{◌≡◌, ◌≢◌, ◌||◌, Bool, false, List, [], ◌∷◌, Option, Some, None, Result, Ok, Err, codes, if◌then◌else◌}
 use Rattle.std.specs.Str.{bytes_eq}
 use Rattle.clap.specs.Words.{Row, Text, first_of, matches_of, fault_of, Kinds, rows_of, found_of}
 use Rattle.clap.specs.declared.parser.matches.ArgMatches.{ArgMatches}
@@ -7,8 +7,12 @@ use Rattle.sr_base.specs.declared.names.Form.{Form}
 use Rattle.sr_base.specs.declared.names.Form.TheVariants as form
 use Rattle.sr_emit.specs.declared.outcome.UsageKind.{UsageKind}
 use Rattle.sr_emit.specs.declared.outcome.UsageKind.TheVariants as usage
-use Rattle.sr_cli.specs.Commands.{check_app}
+use Rattle.sr_trim.specs.Said.{TrimSaid, trim_said}
+use Rattle.sr_trim.specs.declared.words.TrimWords.{TrimWords}
+use Rattle.sr_cli.specs.Commands.{check_app, trim_app}
 use Rattle.sr_cli.specs.declared.words.CheckWords.{CheckWords}
+use Rattle.sr_cli.specs.declared.words.Task.{Task}
+use Rattle.sr_cli.specs.declared.words.Task.TheVariants as task
 use Rattle.sr_cli.specs.declared.words.WordsError.{WordsError}
 use Rattle.sr_cli.specs.declared.words.WordsError.TheVariants.{Refused, NoMemory}
 
@@ -47,19 +51,68 @@ said_where (k ∷ ks) rows = None
 abbrev pub check_said : List Text → Option Said
 check_said words = said_where (fault_of check_app words) (matches_of check_app words)
 
--- what a run is asked for, or why its words are refused
+-- what a run that writes no file is asked for, or why its words are refused
+pub data ReadOnly : Type 0 where
+  refused : UsageKind → ReadOnly
+  checks : Said → ReadOnly
+
+-- what a run is asked for
 pub data Asked : Type 0 where
-  refused : UsageKind → Asked
-  checks : Said → Asked
+  only_reads : ReadOnly → Asked
+  trims : TrimSaid → Asked
 
 abbrev pub asked_by : Option Said → Asked
-asked_by None = refused usage.Words
-asked_by (Some s) = if bytes_eq s.formula s.proof then refused usage.SameName else checks s
+asked_by None = only_reads (refused usage.Words)
+asked_by (Some s) = only_reads (if bytes_eq s.formula s.proof then refused usage.SameName else checks s)
+
+-- what the words of `trim` say
+abbrev pub trim_in : Option Text → Option Text → Option Form → Option Text → Option Form → Option Text → Bool → Bool → Option TrimSaid
+trim_in (Some formula) (Some proof) (Some proof_form) lsr (Some lsr_form) core keep stats = Some (record {
+  formula = formula;
+  proof = proof;
+  proof_form = proof_form;
+  lsr = lsr;
+  lsr_form = lsr_form;
+  core = core;
+  keep = keep;
+  stats = stats;
+})
+trim_in formula proof proof_form lsr lsr_form core keep stats = None
+
+abbrev pub trim_by : List Row → Option TrimSaid
+trim_by rows = trim_in (first_of (codes "FORMULA") rows) (first_of (codes "PROOF") rows) (form_of (first_of (codes "proof-form") rows))
+    (first_of (codes "lsr") rows) (form_of (first_of (codes "lsr-form") rows)) (first_of (codes "core") rows)
+    (is_on (first_of (codes "keep-units") rows)) (is_on (first_of (codes "stats") rows))
+
+abbrev pub trim_where : Kinds → List Row → Option TrimSaid
+trim_where [] rows = trim_by rows
+trim_where (k ∷ ks) rows = None
+
+abbrev pub trim_words : List Text → Option TrimSaid
+trim_words words = trim_where (fault_of trim_app words) (matches_of trim_app words)
+
+-- whether a file is named, and so
+abbrev pub is_named : Option Text → Text → Bool
+is_named None other = false
+is_named (Some name) other = bytes_eq name other
+
+abbrev pub core_is_named : TrimSaid → Bool
+core_is_named s = elim s.lsr [ None ↦ false | Some lsr ↦ is_named s.core lsr ]
+
+-- whether two of the files have one name
+abbrev pub has_same_names : TrimSaid → Bool
+has_same_names s = bytes_eq s.formula s.proof || is_named s.lsr s.formula || is_named s.lsr s.proof || is_named s.core s.formula || is_named s.core s.proof
+    || core_is_named s
+
+abbrev pub trim_asked : Option TrimSaid → Asked
+trim_asked None = only_reads (refused usage.Words)
+trim_asked (Some s) = if has_same_names s then only_reads (refused usage.SameName) else trims s
 
 -- the first word is the command
 abbrev pub asked : List Text → Asked
-asked [] = refused usage.NoCommand
-asked (w ∷ ws) = if bytes_eq w (codes "check") then asked_by (check_said ws) else refused usage.UnknownCommand
+asked [] = only_reads (refused usage.NoCommand)
+asked (w ∷ ws) = if bytes_eq w (codes "check") then asked_by (check_said ws)
+    else (if bytes_eq w (codes "trim") then trim_asked (trim_words ws) else only_reads (refused usage.UnknownCommand))
 
 -- what the words say, without where they lie in memory
 abbrev pub said : CheckWords → Said
@@ -77,9 +130,15 @@ Says these (Ok w) = these ≡ Some (said w)
 Says these (Err (Refused kind)) = (these ≡ None) × (kind ≡ usage.Words)
 Says these (Err NoMemory) = Unit {0}
 
-abbrev pub SaysTask : Asked → Result CheckWords WordsError → Type 0
-SaysTask these (Ok w) = these ≡ checks (said w)
-SaysTask these (Err (Refused kind)) = these ≡ refused kind
+abbrev pub SaysTrim : Option TrimSaid → Result TrimWords WordsError → Type 0
+SaysTrim these (Ok w) = these ≡ Some (trim_said w)
+SaysTrim these (Err (Refused kind)) = (these ≡ None) × (kind ≡ usage.Words)
+SaysTrim these (Err NoMemory) = Unit {0}
+
+abbrev pub SaysTask : Asked → Result Task WordsError → Type 0
+SaysTask these (Ok (task.Check w)) = these ≡ only_reads (checks (said w))
+SaysTask these (Ok (task.Trim w)) = these ≡ trims (trim_said w)
+SaysTask these (Err (Refused kind)) = these ≡ only_reads (refused kind)
 SaysTask these (Err NoMemory) = Unit {0}
 
 -- the matches have these rows and no fault, or there is a fault

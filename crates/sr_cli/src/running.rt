@@ -1,15 +1,18 @@
 // The top call: from the words to the outcome.
-ghost use Rattle.std.specs.Prelude.{◌≡◌, map, string_bytes};
+ghost use Rattle.std.specs.Prelude.{◌≡◌, ◌≤◌, map, string_bytes};
 ghost use Rattle.sr_base.specs.Limits.{shipped};
+ghost use Rattle.sr_trim.specs.Said.{trim_said};
+ghost use Rattle.sr_files.specs.Files.{GivesFile};
 ghost use Rattle.sr_cli.specs.Words.{asked, checks, said};
-ghost use Rattle.sr_cli.specs.Run.{Runs, IsSound, SaysSo, HasRunCause, GivesFiles, OnlyReadsFiles};
+ghost use Rattle.sr_cli.specs.Run.{Runs, RunsReadOnly, RunsTrim, IsSound, SaysSo, HasRunCause, GivesFiles, GivesReadOnly, OnlyReadsFiles, OnlyTouches, OnlyTrims};
 
 use crate::check::check_files;
 use crate::report::report;
-use crate::words::{CheckWords, WordsError, read_words};
+use crate::words::{CheckWords, Task, WordsError, read_words};
 use sr_base::Limits;
 use sr_desk::Desk;
 use sr_emit::{Command, Outcome};
+use sr_trim::{TrimWords, trim_files};
 use std::alloc::Global;
 
 /// Runs the command that the words ask for, with the limits that the program ships with.
@@ -23,7 +26,7 @@ pub fn run<D: Desk>(alloc: Global, words: &[String], desk: &mut D) -> Outcome
     ensures printed { SaysSo shipped (D.outside desk.old) (D.outside desk.new) }
     ensures cause { HasRunCause (D.outside desk.old) (D.outside desk.new) result }
     ensures files { GivesFiles (asked (map string_bytes words.now)) (D.outside desk.old) (D.outside desk.new) }
-    ensures only { OnlyReadsFiles (asked (map string_bytes words.now)) (D.outside desk.old) (D.outside desk.new) }
+    ensures only { OnlyTouches (asked (map string_bytes words.now)) (D.outside desk.old) (D.outside desk.new) }
 {
     run_with(alloc, &Limits::shipped(), words, desk)
 }
@@ -36,14 +39,15 @@ pub fn run_with<D: Desk>(alloc: Global, limits: &Limits, words: &[String], desk:
     ensures printed { SaysSo limits.now (D.outside desk.old) (D.outside desk.new) }
     ensures cause { HasRunCause (D.outside desk.old) (D.outside desk.new) result }
     ensures files { GivesFiles (asked (map string_bytes words.now)) (D.outside desk.old) (D.outside desk.new) }
-    ensures only { OnlyReadsFiles (asked (map string_bytes words.now)) (D.outside desk.old) (D.outside desk.new) }
+    ensures only { OnlyTouches (asked (map string_bytes words.now)) (D.outside desk.old) (D.outside desk.new) }
 {
     match read_words(alloc, words) {
         Err(WordsError::NoMemory) => Outcome::NoMemory,
         Err(WordsError::Refused(kind)) => {
             report(alloc, Command::Other, None, Outcome::Usage(kind), desk)
         }
-        Ok(said) => run_check(alloc, limits, &said, desk),
+        Ok(Task::Check(said)) => run_check(alloc, limits, &said, desk),
+        Ok(Task::Trim(said)) => run_trim(alloc, limits, &said, desk),
     }
 }
 
@@ -55,15 +59,41 @@ fn run_check<D: Desk>(
     desk: &mut D,
 ) -> Outcome
     requires { (D.outside desk.old).begun ≡ 0 }
-    ensures runs { Runs limits.now (checks (said asked_for.now)) (D.outside desk.old) (D.outside desk.new) result }
+    ensures runs { RunsReadOnly limits.now (checks (said asked_for.now)) (D.outside desk.old) (D.outside desk.new) result }
     ensures sound { IsSound limits.now (D.outside desk.new) result }
     ensures printed { SaysSo limits.now (D.outside desk.old) (D.outside desk.new) }
     ensures cause { HasRunCause (D.outside desk.old) (D.outside desk.new) result }
-    ensures files { GivesFiles (checks (said asked_for.now)) (D.outside desk.old) (D.outside desk.new) }
+    ensures files { GivesReadOnly (checks (said asked_for.now)) (D.outside desk.old) (D.outside desk.new) }
     ensures only { OnlyReadsFiles (checks (said asked_for.now)) (D.outside desk.old) (D.outside desk.new) }
 {
     let found = check_files(alloc, limits, asked_for, desk);
     let all = found.counts;
     let counts = if asked_for.stats { Some(&all) } else { None };
     report(alloc, Command::Check, counts, found.outcome, desk)
+}
+
+/// Runs `trim`. A fault of a file that is written, and out of memory, aren't reported.
+fn run_trim<D: Desk>(
+    alloc: Global,
+    limits: &Limits,
+    asked_for: &TrimWords<'_>,
+    desk: &mut D,
+) -> Outcome
+    requires { (D.outside desk.old).begun ≡ 0 }
+    ensures runs { RunsTrim limits.now (trim_said asked_for.now) (D.outside desk.old) (D.outside desk.new) result }
+    ensures sound { IsSound limits.now (D.outside desk.new) result }
+    ensures printed { SaysSo limits.now (D.outside desk.old) (D.outside desk.new) }
+    ensures cause { HasRunCause (D.outside desk.old) (D.outside desk.new) result }
+    ensures files { 1 ≤ (D.outside desk.new).begun → GivesFile 0 asked_for.now.formula.now (D.outside desk.old) (D.outside desk.new) }
+    ensures only { OnlyTrims (trim_said asked_for.now) (D.outside desk.old) (D.outside desk.new) }
+{
+    let found = trim_files(alloc, limits, asked_for, desk);
+    match found.outcome {
+        Outcome::SinkFault { .. } => return found.outcome,
+        Outcome::NoMemory => return found.outcome,
+        _ => {}
+    }
+    let all = found.counts;
+    let counts = if !asked_for.stats { None } else { Some(&all) };
+    report(alloc, Command::Trim, counts, found.outcome, desk)
 }

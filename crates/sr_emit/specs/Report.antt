@@ -3,7 +3,7 @@ use Rattle.std.specs.Prelude.{ℕ, ◌≡◌, List, [], ◌∷◌, ◌++◌, Opt
 use Rattle.sr_emit.specs.Names.{which_name, text_name, limit_name, usage_name, cause_text}
 use Rattle.sr_emit.specs.declared.counts.Counts.{Counts}
 use Rattle.sr_emit.specs.declared.report.Command.{Command}
-use Rattle.sr_emit.specs.declared.report.Command.TheVariants.{Check}
+use Rattle.sr_emit.specs.declared.report.Command.TheVariants.{Check, Trim}
 use Rattle.sr_emit.specs.declared.outcome.Outcome.{Outcome}
 use Rattle.sr_emit.specs.declared.outcome.Outcome.TheVariants.{Verified, RejectedStep, RejectedLemma, NoEmptyClause, Usage, Text, Limit, SourceFault, SinkFault, NoMemory}
 
@@ -46,9 +46,14 @@ count_line name n = codes "c " ++ name ++ space ++ decimal n ++ line_end
 abbrev pub check_lines : Counts → List ℕ
 check_lines k = count_line (codes "clauses") k.clauses ++ count_line (codes "steps") k.steps ++ count_line (codes "hints") k.hints
 
+abbrev pub trim_lines : Counts → List ℕ
+trim_lines k = count_line (codes "clauses") k.clauses ++ count_line (codes "core") k.core ++ count_line (codes "lemmas") k.lemmas
+    ++ count_line (codes "steps") k.steps ++ count_line (codes "hints") k.hints ++ count_line (codes "passed") k.passed
+
 -- statistics stand before the last line of a verified run that is asked for them
 abbrev pub statistics_of : Command → Option Counts → Outcome → List ℕ
 statistics_of Check (Some k) Verified = check_lines k
+statistics_of Trim (Some k) Verified = trim_lines k
 statistics_of command counts outcome = []
 
 abbrev pub report : Command → Option Counts → Outcome → List ℕ

@@ -1,6 +1,6 @@
 // The report on standard output: the lines of `--stats` where verified, and a last line for each outcome.
 ghost use Rattle.std.specs.Prelude.{◌≡◌, ◌++◌, IfOk, string_bytes, option_map, decimal};
-ghost use Rattle.sr_emit.specs.Report.{report, rejected_line, rejected_lemma_line, last_line, count_line, check_lines, statistics_of};
+ghost use Rattle.sr_emit.specs.Report.{report, rejected_line, rejected_lemma_line, last_line, count_line, check_lines, trim_lines, statistics_of};
 
 use crate::counts::Counts;
 use crate::names::{name_of_limit, name_of_text, name_of_usage, name_of_which, text_of_cause};
@@ -12,6 +12,7 @@ use std::alloc::{AllocError, Global};
 #[derive(Clone, Copy, Debug, PartialEq, Eq)]
 pub enum Command {
     Check,
+    Trim,
     /// None that is known.
     Other,
 }
@@ -66,6 +67,7 @@ fn statistics(
 {
     match (command, counts, outcome) {
         (Command::Check, Some(counts), Outcome::Verified) => check_statistics(alloc, counts),
+        (Command::Trim, Some(counts), Outcome::Verified) => trim_statistics(alloc, counts),
         _ => Ok(String::new(alloc)),
     }
 }
@@ -78,6 +80,25 @@ fn check_statistics(alloc: Global, counts: &Counts) -> Result<String, AllocError
     text.push_str(steps.as_str())?;
     let hints = count_line(alloc, "hints", counts.hints)?;
     text.push_str(hints.as_str())?;
+    Ok(text)
+}
+
+fn trim_statistics(alloc: Global, counts: &Counts) -> Result<String, AllocError>
+    ensures { IfOk result (λ s. string_bytes s ≡ trim_lines counts.now) }
+{
+    let mut text = String::new(alloc);
+    let clauses = count_line(alloc, "clauses", counts.clauses)?;
+    text.push_str(clauses.as_str())?;
+    let core = count_line(alloc, "core", counts.core)?;
+    text.push_str(core.as_str())?;
+    let lemmas = count_line(alloc, "lemmas", counts.lemmas)?;
+    text.push_str(lemmas.as_str())?;
+    let steps = count_line(alloc, "steps", counts.steps)?;
+    text.push_str(steps.as_str())?;
+    let hints = count_line(alloc, "hints", counts.hints)?;
+    text.push_str(hints.as_str())?;
+    let passed = count_line(alloc, "passed", counts.passed)?;
+    text.push_str(passed.as_str())?;
     Ok(text)
 }
 

@@ -28,7 +28,7 @@ module _ (lim : LimitValues) (s : TrimSaid) (old mid : Outside) where
       → HasReadCause old mid o
       → (o ≡ outcome.NoMemory) ⊎ ((formula proof : Contents) → Agrees (mid.slot 0) formula → Agrees (mid.slot 1) proof → IsDecided lim s formula proof (stops o) mid.begun)
       → Finds lim s old mid o k
-  found_stop o k slots formula proof cause (inl e) = inl (record { is = e; reads = slots })
+  found_stop o k slots formula proof cause (inl e) = inl (record { is = e; reads = inr slots; formula = λ le. formula; proof = proof })
   found_stop o k slots formula proof cause (inr by) = inr (record {
     decision = stops o;
     mid = mid;
@@ -57,7 +57,7 @@ module _ (lim : LimitValues) (s : TrimSaid) (old mid : Outside) (st : LoaderStat
   -- the pass ended without steps
   pub found_pass : (o : Outcome) (k : Counts) → ReadsFiles old mid → GivesFile 0 s.formula old mid → (2 ≤ mid.begun → GivesFile 1 s.proof old mid)
       → LoadsFiles lim s mid (Ok st) → (o ≡ outcome.NoMemory) ⊎ ByPass lim s st.formula st.done (stops o) → Finds lim s old mid o k
-  found_pass o k slots formula proof loads (inl e) = inl (record { is = e; reads = slots })
+  found_pass o k slots formula proof loads (inl e) = inl (record { is = e; reads = inr slots; formula = λ le. formula; proof = proof })
   found_pass o k slots formula proof loads (inr by) =
       found_stop lim s old mid o k slots formula proof (pass_cause lim s st.formula st.done old mid o by) (inr (loads.1 (stops o) by))
 

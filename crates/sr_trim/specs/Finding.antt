@@ -35,9 +35,11 @@ pub record Trims (lim : LimitValues) (s : TrimSaid) (old new : Outside) (o : Out
   pub cause : HasDecidedCause old mid decision
 
 -- memory ran out, and nothing was begun for writing
-pub record RanOut (old new : Outside) (o : Outcome) : Type 0 where
+pub record RanOut (s : TrimSaid) (old new : Outside) (o : Outcome) : Type 0 where
   pub is : o ≡ outcome.NoMemory
-  pub reads : ReadsFiles old new
+  pub reads : (new ≡ old) ⊎ ReadsFiles old new
+  pub formula : 1 ≤ new.begun → GivesFile 0 s.formula old new
+  pub proof : 2 ≤ new.begun → GivesFile 1 s.proof old new
 
 abbrev pub Finds : LimitValues → TrimSaid → Outside → Outside → Outcome → Counts → Type 0
-Finds lim s old new o k = RanOut old new o ⊎ Trims lim s old new o k
+Finds lim s old new o k = RanOut s old new o ⊎ Trims lim s old new o k

@@ -1,4 +1,4 @@
-use Rattle.std.proofs.Common.{◌≡◌, ◌∙◌, ◌+◌, ℕ, Ok, ap, sym, subst}
+use Rattle.std.proofs.Common.{◌∙◌, ◌+◌, ℕ, Ok, ap, subst}
 use Rattle.sr_base.specs.Contents.{Contents}
 use Rattle.sr_model.specs.TextTokens.{spelled}
 use Rattle.sr_model.specs.Dimacs.{Formula, formula_at}

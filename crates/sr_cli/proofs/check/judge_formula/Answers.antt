@@ -1,5 +1,4 @@
-use Rattle.std.proofs.Common.{◌≡◌, ◌∙◌, ◌+◌, ℕ, Bool, List, ap, sym, subst, refl, false, true, []}
-use Rattle.sr_base.specs.Literal.{Literal}
+use Rattle.std.proofs.Common.{◌≡◌, ◌∙◌, ◌+◌, ℕ, ap, sym, subst, refl, false, true, []}
 use Rattle.sr_base.specs.declared.names.Which.TheVariants as which
 use Rattle.sr_model.specs.Chain.{clauses}
 use Rattle.sr_model.specs.Refutation.{has_empty}

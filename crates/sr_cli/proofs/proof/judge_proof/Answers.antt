@@ -1,5 +1,4 @@
-use Rattle.std.proofs.Common.{◌≡◌, ◌∙◌, Option, Some, None, Ok, Err, subst, sym, refl, ap, arith, false}
-use Rattle.std.specs.Prelude.{Result}
+use Rattle.std.proofs.Common.{◌≡◌, ◌∙◌, Option, Some, None, Ok, Err, subst, sym, ap, false}
 use Rattle.sr_base.specs.declared.names.Form.{Form}
 use Rattle.sr_base.specs.declared.names.InputError.{InputError}
 use Rattle.sr_base.specs.Limits.{LimitValues}
