@@ -1,9 +1,9 @@
 -- The clauses of the core, by their numbers.
-use Rattle.std.proofs.Common.{◌≡◌, ℕ, suc, zero, ◌+◌, ◌-◌, ◌<◌, ◌≤◌, Bool, true, false, cond, List, [], ◌∷◌, ◌++◌, refl, sym, ◌∙◌, ap, subst, arith, length, get_or, append_assoc}
+use Rattle.std.proofs.Common.{◌≡◌, ℕ, suc, zero, ◌+◌, ◌-◌, ◌≤◌, Bool, List, [], ◌∷◌, ◌++◌, refl, sym, ◌∙◌, ap, subst, arith, length, get_or, append_assoc}
 use Rattle.std.specs.Prelude.{filter, map, All, slice_index_or}
-use Rattle.std.proofs.lemmas.List.{get_or-append_right, length_push}
+use Rattle.std.proofs.lemmas.List.{length_push}
 use Rattle.sr_base.specs.Literal.{Literal}
-use Rattle.sr_model.specs.Chain.{Numbered, clauses}
+use Rattle.sr_model.specs.Chain.{clauses}
 use Rattle.sr_model.specs.Meeting.{Step}
 use Rattle.sr_model.specs.Judging.{numbered_from}
 use Rattle.sr_model.specs.Dimacs.{Formula}

@@ -1,19 +1,19 @@
 -- Items are laid one after another.
-use Rattle.std.proofs.Common.{◌≡◌, ℕ, suc, zero, ◌+◌, ◌-◌, ◌<◌, ◌≤◌, ◌==◌, Bool, true, false, not, ◌&&◌, ◌||◌, cond, List, [], ◌∷◌, ◌++◌, refl, sym, ◌∙◌, ap, subst, arith, length, get_or, take, append_assoc, append-nil}
-use Rattle.std.specs.Prelude.{filter, map, flat_map, Option, Some, None}
+use Rattle.std.proofs.Common.{◌≡◌, ℕ, suc, ◌+◌, ◌<◌, not, ◌&&◌, ◌||◌, List, [], ◌∷◌, ◌++◌, refl, sym, ◌∙◌, ap, subst, arith, length, get_or, take, append_assoc, append-nil}
+use Rattle.std.specs.Prelude.{filter}
 use Rattle.std.proofs.lemmas.List.{take_more, take_all, length_push}
 use Rattle.sr_base.specs.Literal.{Literal}
 use Rattle.sr_base.specs.declared.names.Form.{Form}
 use Rattle.sr_model.specs.Assignment.{holds_number}
 use Rattle.sr_model.specs.Chain.{Numbered}
 use Rattle.sr_model.specs.Meeting.{Step}
-use Rattle.sr_model.specs.Judging.{Item, stepped, dropped, numbered_from}
+use Rattle.sr_model.specs.Judging.{Item, stepped, numbered_from}
 use Rattle.sr_model.specs.Writing.{written_item, written_items}
 use Rattle.sr_trimming.specs.Citing.{cites, groups_cite, is_cited}
 use Rattle.sr_trimming.specs.Placing.{numbers, deletion, last_cited, placed_from, uncited, placed}
 use Rattle.sr_trimming.specs.Reordered.{IsStepRewritten, AreStepsRewritten}
 use Rattle.sr_trimming.proofs.Placed.{known_after}
-use Rattle.sr_placing.specs.Placing.{PlacingValue, drops_from, placing_of}
+use Rattle.sr_placing.specs.Placing.{drops_from}
 use Rattle.sr_placing.proofs.Ranging.{filter_same, numbers_filter}
 
 -- the bytes of items one after another
@@ -119,7 +119,7 @@ one_laid form f ss i out put new s a h long is (t, r, p) n =
       count = length_push a.steps t ∙ ap (λ m. m + 1) a.count;
       rewritten = rw (take_more ss i s h, is s) (rewritten_push (take i ss) a.steps s t a.rewritten r);
       bytes = n ∙ ap (λ l. l ++ gone) (p ∙ ap (λ l. l ++ written_item form (stepped t)) a.bytes)
-      ∙ regroup first (written_items form (laid drops a.steps)) (written_item form (stepped t)) gone ∙ ap (λ l. first ++ l) (sym more);
+          ∙ regroup first (written_items form (laid drops a.steps)) (written_item form (stepped t)) gone ∙ ap (λ l. first ++ l) (sym more);
     }
   where
     regroup : (a b c d : List ℕ) → ((a ++ b) ++ c) ++ d ≡ a ++ (b ++ (c ++ d))
@@ -139,10 +139,12 @@ last_laid form f ss i out new s a long is same n =
     ∙ sym (deletion_append (length f) (uncited f ss) [] (laid drops a.steps ++ stepped s ∷ [])) in
     let bytes : written_items form (placed f ts) ≡ written_items form (deletion (length f) (uncited f ss) []) ++ (written_items form (laid drops a.steps) ++ (written_item form (stepped s) ++ [])) =
     ap (written_items form) items ∙ items_append form (deletion (length f) (uncited f ss) []) (laid drops a.steps ++ stepped s ∷ [])
-    ∙ ap (λ l. written_items form (deletion (length f) (uncited f ss) []) ++ l) (items_append form (laid drops a.steps) (stepped s ∷ [])) in
-    (ts, rewritten,
+    ∙ ap (λ l. written_items form (deletion (length f) (uncited f ss) []) ++ l) (items_append form (laid drops a.steps) (stepped s ∷ [])) in (
+      ts,
+      rewritten,
       n ∙ ap (λ l. l ++ written_item form (stepped s)) a.bytes
-      ∙ regroup (written_items form (deletion (length f) (uncited f ss) [])) (written_items form (laid drops a.steps)) (written_item form (stepped s)) ∙ sym bytes)
+          ∙ regroup (written_items form (deletion (length f) (uncited f ss) [])) (written_items form (laid drops a.steps)) (written_item form (stepped s)) ∙ sym bytes,
+    )
   where
     regroup : (a b c : List ℕ) → (a ++ b) ++ c ≡ a ++ (b ++ (c ++ []))
     regroup a b c = append_assoc a b c ∙ ap (λ l. a ++ (b ++ l)) (sym (append-nil c))

@@ -1,10 +1,10 @@
 -- Steps and deletions by the parts that are put.
-use Rattle.std.proofs.Common.{◌≡◌, ◌≢◌, ◌∙◌, ℕ, ℤ, pos, refl, sym, ap, subst, List, [], ◌∷◌, ◌++◌, cond, Bool, true, false, Option, Some, None, length, map, append_assoc, append-nil}
-use Rattle.sr_base.specs.Literal.{Literal, number}
+use Rattle.std.proofs.Common.{◌≡◌, ◌≢◌, ◌∙◌, ℕ, ℤ, pos, refl, sym, ap, List, [], ◌∷◌, ◌++◌, Some, None, map, append_assoc, append-nil}
+use Rattle.sr_base.specs.Literal.{Literal}
 use Rattle.sr_base.specs.declared.names.Form.{Form}
 use Rattle.sr_model.specs.Substitution.{Witness}
 use Rattle.sr_model.specs.Meeting.{Step}
-use Rattle.sr_model.specs.Judging.{Item, stepped, dropped}
+use Rattle.sr_model.specs.Judging.{stepped, dropped}
 use Rattle.sr_model.specs.Writing.{witness_written, literals_written, groups_written, hints_written, step_numbers, written_item, written_items}
 use Rattle.sr_trimming.specs.Placing.{deletion}
 use Rattle.sr_scan.specs.Written.{written_numbers, written_literals, written_end}

@@ -12,11 +12,7 @@ use sr_wit::Formula;
 use std::alloc::Global;
 
 /// The text of the core: the formula's clauses that the steps cite, as they stood, under the formula's number of variables.
-pub fn core_bytes(
-    alloc: Global,
-    formula: &Formula,
-    placing: &Placing,
-) -> Result<ByteList, NoMemory>
+pub fn core_bytes(alloc: Global, formula: &Formula, placing: &Placing) -> Result<ByteList, NoMemory>
     requires { (ss : List Step) × (placing.now ≡ placing_of formula.now.clauses ss) }
     ensures { (ss : List Step) → placing.now ≡ placing_of formula.now.clauses ss
         → IfOk result (λ bytes. bytes ≡ written_formula (record { vars = formula.now.vars; clauses = core formula.now.clauses ss })) }

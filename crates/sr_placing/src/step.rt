@@ -47,12 +47,7 @@ fn put_group(
     put_ids(form, out, hints)
 }
 
-fn put_groups(
-    form: Form,
-    out: &mut ByteList,
-    steps: &StepTable,
-    i: usize,
-) -> Result<(), NoMemory>
+fn put_groups(form: Form, out: &mut ByteList, steps: &StepTable, i: usize) -> Result<(), NoMemory>
     requires index { i < length steps.now }
     requires small { All IsSmallGroup (slice_index_or steps.now i (bare 0 false)).groups }
     ensures { OnOk result (out.new ≡ out.old ++ written_numbers form (groups_written (slice_index_or steps.now i (bare 0 false)).groups)) }
@@ -87,12 +82,7 @@ fn put_start(form: Form, out: &mut ByteList, id: ClauseId) -> Result<(), NoMemor
 }
 
 /// The pivot of a clause, and then its other literals.
-fn put_pivot_first(
-    form: Form,
-    out: &mut ByteList,
-    pivot: Lit,
-    lits: &[Lit],
-) -> Result<(), NoMemory>
+fn put_pivot_first(form: Form, out: &mut ByteList, pivot: Lit, lits: &[Lit]) -> Result<(), NoMemory>
     ensures { OnOk result (out.new ≡ out.old ++ written_literals form (put_first pivot lits.now)) }
 {
     put_literal(form, out, pivot)?;

@@ -1,4 +1,4 @@
-use Rattle.std.proofs.Common.{◌≡◌, false, List, get_or, arith}
+use Rattle.std.proofs.Common.{false, List, get_or, arith}
 use Rattle.sr_model.specs.Meeting.{Group}
 use Rattle.sr_wit.proofs.GroupLemmas.{group_at}
 use Rattle.sr_lsr.proofs.WriteLemmas.{groups_step}

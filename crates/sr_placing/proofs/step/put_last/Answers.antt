@@ -1,4 +1,4 @@
-use Rattle.std.proofs.Common.{◌≡◌, ◌∙◌, ◌++◌, ℕ, List, [], None, false, get_or, ap, refl, sym, append_assoc, append-nil}
+use Rattle.std.proofs.Common.{◌≡◌, ◌∙◌, ◌++◌, None, false, get_or, ap, refl, sym, append_assoc, append-nil}
 use Rattle.std.proofs.lemmas.Result.{IfOk-equal}
 use Rattle.sr_model.specs.Judging.{stepped}
 use Rattle.sr_model.specs.Writing.{written_item}

@@ -1,12 +1,12 @@
-use Rattle.std.proofs.Common.{◌≡◌, ◌∙◌, ◌++◌, List, true, false, cond, Some, None, ap, sym, append_assoc}
+use Rattle.std.proofs.Common.{◌≡◌, ◌∙◌, ◌++◌, List, cond, Some, None, ap, sym, append_assoc}
 use Rattle.std.specs.Option.{option_copied}
 use Rattle.sr_base.specs.Literal.{Literal}
-use Rattle.sr_model.specs.Substitution.{Witness, IsPivot}
+use Rattle.sr_model.specs.Substitution.{IsPivot}
 use Rattle.sr_model.specs.Writing.{literals_written, witness_written}
 use Rattle.sr_trimming.specs.From.{witness_of}
 use Rattle.sr_trimming.specs.Reordered.{IsRewritten, put_first}
 use Rattle.sr_scan.specs.Written.{written_numbers, written_literals}
-use Rattle.sr_load.specs.Loaded.{LoadedState, HasPivotAt}
+use Rattle.sr_load.specs.Loaded.{LoadedState}
 use Rattle.sr_placing.specs.Parts.{witness_or}
 use Rattle.sr_placing.proofs.Lemmas.{lemma_rewritten, witness_is}
 use Rattle.sr_placing.proofs.Putting.{literals_put, clause_put}
@@ -20,11 +20,13 @@ returns-in_ok-put_witness g c p is =
     let first : IsPivot c.pivot-pivot.result p.stated.clause = c.pivot-pivot.ensures p is in
     let written : witness_of p.stated ≡ Some (witness_or c.pivot-pivot.result (option_copied c.witness.result)) =
     witness_is p.stated c.pivot-pivot.result first ∙ ap (λ o. Some (witness_or c.pivot-pivot.result o)) (c.witness.ensures p is) in
-    let chosen : cond c.args.by_witness (witness_of p.stated) None ≡ Some (witness_or c.pivot-pivot.result (option_copied c.witness.result)) = rw c.if-by_witness.true written in
-    (own, rewritten,
+    let chosen : cond c.args.by_witness (witness_of p.stated) None ≡ Some (witness_or c.pivot-pivot.result (option_copied c.witness.result)) = rw c.if-by_witness.true written in (
+      own,
+      rewritten,
       c.in_ok-put_witness.ensures ∙ ap (λ x. x ++ written_literals c.args.form (witness_written (Some (witness_or c.pivot-pivot.result (option_copied c.witness.result))))) c.in_ok-put_pivot_first.ensures
-      ∙ append_assoc c.args.out.now (written_literals c.args.form own) (written_literals c.args.form (witness_written (Some (witness_or c.pivot-pivot.result (option_copied c.witness.result)))))
-      ∙ ap (λ x. c.args.out.now ++ x) (literals_put c.args.form own (witness_or c.pivot-pivot.result (option_copied c.witness.result)) ∙ ap (λ o. written_numbers c.args.form (literals_written own o)) (sym chosen)))
+          ∙ append_assoc c.args.out.now (written_literals c.args.form own) (written_literals c.args.form (witness_written (Some (witness_or c.pivot-pivot.result (option_copied c.witness.result)))))
+          ∙ ap (λ x. c.args.out.now ++ x) (literals_put c.args.form own (witness_or c.pivot-pivot.result (option_copied c.witness.result)) ∙ ap (λ o. written_numbers c.args.form (literals_written own o)) (sym chosen)),
+    )
 
 pub returns-else-by_witness : goal.returns-else-by_witness
 returns-else-by_witness g c p is =

@@ -22,9 +22,11 @@ with_literals : (form : Form) (k : Kept) (p : Place) (old start lits new : List 
 with_literals form k p old start lits new c s l r n =
     let t : Step = record { id = k.id; clause = c; witness = cond k.by_witness (witness_of p.stated) None; prefix = k.prefix; groups = k.groups } in
     let literals : List ℕ = written_numbers form (literals_written c (cond k.by_witness (witness_of p.stated) None)) in
-    let put : lits ≡ old ++ (start_put form k.id ++ literals) = l ∙ ap (λ x. x ++ literals) s ∙ append_assoc old (start_put form k.id) literals in
-    (t, record { id = refl; clause = r; witness = refl; prefix = refl; groups = refl },
-      n ∙ ap (λ x. x ++ hints_put form k) put ∙ append_assoc old (start_put form k.id ++ literals) (hints_put form k) ∙ ap (λ x. old ++ x) (step_put form t k refl refl refl))
+    let put : lits ≡ old ++ (start_put form k.id ++ literals) = l ∙ ap (λ x. x ++ literals) s ∙ append_assoc old (start_put form k.id) literals in (
+      t,
+      record { id = refl; clause = r; witness = refl; prefix = refl; groups = refl },
+      n ∙ ap (λ x. x ++ hints_put form k) put ∙ append_assoc old (start_put form k.id ++ literals) (hints_put form k) ∙ ap (λ x. old ++ x) (step_put form t k refl refl refl),
+    )
 
 pub returns : goal.returns
 returns g c p is =

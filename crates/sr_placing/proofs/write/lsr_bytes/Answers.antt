@@ -1,6 +1,5 @@
-use Rattle.std.proofs.Common.{◌≡◌, ◌∙◌, ◌++◌, ℕ, ◌+◌, ◌-◌, ◌<◌, false, List, [], None, Some, length, get_or, ap, sym, subst, arith}
+use Rattle.std.proofs.Common.{◌≡◌, ◌∙◌, ◌++◌, ℕ, ◌-◌, false, [], None, Some, length, get_or, ap, sym, subst, arith}
 use Rattle.std.specs.Prelude.{All}
-use Rattle.sr_base.specs.Literal.{Literal}
 use Rattle.sr_model.specs.Meeting.{Step}
 use Rattle.sr_model.specs.Judging.{numbered_from, stepped}
 use Rattle.sr_model.specs.Writing.{written_item, written_items}
@@ -11,12 +10,12 @@ use Rattle.sr_lsr.specs.Written.{IsSmall}
 use Rattle.sr_steps.specs.Adding.{bare}
 use Rattle.sr_steps.specs.Kept.{Kept, step_at, step_of}
 use Rattle.sr_load.specs.Loaded.{LoadedState, all_lines}
-use Rattle.sr_placing.specs.Placing.{PlacingValue, steps_of, drops_from, placing_of}
+use Rattle.sr_placing.specs.Placing.{PlacingValue, steps_of, drops_from}
 use Rattle.sr_placing.specs.Parts.{IsSmallKept}
 use Rattle.sr_placing.proofs.Lemmas.{place_before}
 use Rattle.sr_placing.proofs.Placings.{id_is}
 use Rattle.sr_placing.proofs.Laying.{AreLaid, none_laid, one_laid, last_laid}
-use Rattle.sr_placing.proofs.Ready.{AreReady, are_ready, step_got, steps_count, bare_rewritten}
+use Rattle.sr_placing.proofs.Ready.{are_ready, step_got, steps_count, bare_rewritten}
 use Rattle.sr_placing.proofs.write.lsr_bytes.Goals as goal
 
 pub put_deletion-requires-clause-ids : goal.put_deletion-requires-clause-ids
