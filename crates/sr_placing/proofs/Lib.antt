@@ -9,3 +9,4 @@ pub mod Smallness
 pub mod Laying
 pub mod Ready
 pub mod Coring
+pub mod Sinks

@@ -3,3 +3,4 @@ pub mod Uses
 pub mod Placing
 pub mod Parts
 pub mod Counting
+pub mod Sinking

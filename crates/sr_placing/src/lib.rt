@@ -6,6 +6,8 @@ mod chains;
 mod core;
 mod counts;
 mod placing;
+mod sink;
+mod spelling;
 mod step;
 mod uses;
 mod write;

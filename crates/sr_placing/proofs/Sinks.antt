@@ -1,0 +1,43 @@
+-- What was put is put after what was put before.
+use Rattle.std.proofs.Common.{◌≡◌, ℕ, ◌+◌, ◌≤◌, Bool, true, false, List, [], ◌∷◌, ◌++◌, refl, sym, ◌∙◌, ap, subst, arith, append_assoc, append-nil}
+use Rattle.sr_desk.specs.Outside.{Outside, SlotState, Rose, OnlyWrites}
+use Rattle.sr_desk.specs.Calls.{Sends, SendsPrefix}
+use Rattle.sr_desk.proofs.CallLemmas.{OnlyWrites-refl, OnlyWrites-trans, Sends-none, Sends-trans, Rose-after, Rose-before}
+use Rattle.sr_table.proofs.Paging.{by_test}
+use Rattle.sr_placing.specs.Sinking.{FileState, FilePuts}
+
+pub file_none : (s : FileState) (a : Outside) → FilePuts s a s a []
+file_none s a = record {
+  same = refl;
+  only = OnlyWrites-refl s.slot a;
+  goes_on = λ h g. ([], Sends-none (a.slot s.slot), append-nil s.buffered);
+  fails = λ h g. absurd cc;
+  stays = λ h. (h, refl);
+}
+
+pub file_joined : (s : FileState) (a : Outside) (t : FileState) (b : Outside) (u : FileState) (c : Outside) (x y : List ℕ) → FilePuts s a t b x → FilePuts t b u c y → FilePuts s a u c (x ++ y)
+file_joined s a t b u c x y p q = record {
+  same = q.same ∙ p.same;
+  only = OnlyWrites-trans p.only (subst (λ n. OnlyWrites n b c) p.same q.only);
+  goes_on = λ h g. by_test t.failed
+    (λ f. let bad : false ≡ true = sym g ∙ (q.stays f).0 in absurd cc)
+    (λ f. let one = p.goes_on h f in let two = q.goes_on f g in
+    (one.0 ++ two.0, Sends-trans one.1 (subst (λ n. Sends (b.slot n) (c.slot n) two.0) p.same two.1),
+      sym (append_assoc s.buffered x y) ∙ ap (λ l. l ++ y) one.2 ∙ append_assoc one.0 t.buffered y ∙ ap (λ l. one.0 ++ l) two.2 ∙ sym (append_assoc one.0 two.0 u.buffered)));
+  fails = λ h g. by_test t.failed
+    (λ f. let one = p.fails h f in let same : c ≡ b = (q.stays f).1 in
+    subst (λ o. SendsPrefix (a.slot s.slot) (o.slot s.slot) (s.buffered ++ (x ++ y)) × Rose (a.slot s.slot).faults (o.slot s.slot).faults) (sym same) (longer one.0, one.1))
+    (λ f. let one = p.goes_on h f in let two = q.fails f g in
+    (after one two.0, Rose-after (a.slot s.slot).faults (b.slot s.slot).faults (c.slot s.slot).faults p.only.later (subst (λ n. Rose (b.slot n).faults (c.slot n).faults) p.same two.1)));
+  stays = λ h. let one = p.stays h in let two = q.stays one.0 in (two.0, two.1 ∙ one.1);
+}
+  where
+    longer : SendsPrefix (a.slot s.slot) (b.slot s.slot) (s.buffered ++ x) → SendsPrefix (a.slot s.slot) (b.slot s.slot) (s.buffered ++ (x ++ y))
+    longer (front, (rest, e, sent)) = (front, (rest ++ y, sym (append_assoc s.buffered x y) ∙ ap (λ l. l ++ y) e ∙ append_assoc front rest y, sent))
+
+    after : (front : List ℕ) × Sends (a.slot s.slot) (b.slot s.slot) front × (s.buffered ++ x ≡ front ++ t.buffered) → SendsPrefix (b.slot t.slot) (c.slot t.slot) (t.buffered ++ y)
+        → SendsPrefix (a.slot s.slot) (c.slot s.slot) (s.buffered ++ (x ++ y))
+    after (front, sent, e) (more, (rest, d, then)) =
+        (front ++ more, (rest,
+          sym (append_assoc s.buffered x y) ∙ ap (λ l. l ++ y) e ∙ append_assoc front t.buffered y ∙ ap (λ l. front ++ l) d ∙ sym (append_assoc front more rest),
+          Sends-trans sent (subst (λ n. Sends (b.slot n) (c.slot n) more) p.same then)))

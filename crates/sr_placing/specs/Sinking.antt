@@ -1,0 +1,19 @@
+-- Where bytes are put, one piece after another.
+use Rattle.std.specs.Prelude.{ℕ, ◌≡◌, Bool, true, false, List, [], ◌++◌, length}
+use Rattle.sr_desk.specs.Outside.{Outside, SlotState, Rose, OnlyWrites}
+use Rattle.sr_desk.specs.Calls.{Sends, SendsPrefix}
+
+-- a file that is written: its slot, what was put and isn't sent yet, and whether a call has failed
+pub record FileState : Type 0 where
+  pub slot : ℕ
+  pub buffered : List ℕ
+  pub failed : Bool
+
+-- these bytes were put: a part of what was buffered and they was sent, and the rest is buffered; or a call failed, and a
+-- prefix was sent. Once one has failed, nothing is sent.
+pub record FilePuts (s : FileState) (a : Outside) (t : FileState) (b : Outside) (bytes : List ℕ) : Type 0 where
+  pub same : t.slot ≡ s.slot
+  pub only : OnlyWrites s.slot a b
+  pub goes_on : s.failed ≡ false → t.failed ≡ false → (front : List ℕ) × Sends (a.slot s.slot) (b.slot s.slot) front × (s.buffered ++ bytes ≡ front ++ t.buffered)
+  pub fails : s.failed ≡ false → t.failed ≡ true → SendsPrefix (a.slot s.slot) (b.slot s.slot) (s.buffered ++ bytes) × Rose (a.slot s.slot).faults (b.slot s.slot).faults
+  pub stays : s.failed ≡ true → (t.failed ≡ true) × (b ≡ a)
