@@ -9,4 +9,3 @@ pub mod Smallness
 pub mod Laying
 pub mod Ready
 pub mod Coring
-pub mod Sinks

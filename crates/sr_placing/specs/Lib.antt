@@ -4,3 +4,4 @@ pub mod Placing
 pub mod Parts
 pub mod Counting
 pub mod Sinking
+pub mod SinkLaws

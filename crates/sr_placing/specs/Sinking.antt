@@ -1,7 +1,8 @@
 -- Where bytes are put, one piece after another.
-use Rattle.std.specs.Prelude.{ℕ, ◌≡◌, Bool, true, false, List, [], ◌++◌, length}
+use Rattle.std.specs.Prelude.{ℕ, ◌≡◌, ◌+◌, Bool, true, false, List, ◌++◌, length}
 use Rattle.sr_desk.specs.Outside.{Outside, SlotState, Rose, OnlyWrites}
 use Rattle.sr_desk.specs.Calls.{Sends, SendsPrefix}
+use Rattle.sr_placing.specs.Counting.{counted}
 
 -- a file that is written: its slot, what was put and isn't sent yet, and whether a call has failed
 pub record FileState : Type 0 where
@@ -17,3 +18,17 @@ pub record FilePuts (s : FileState) (a : Outside) (t : FileState) (b : Outside) 
   pub goes_on : s.failed ≡ false → t.failed ≡ false → (front : List ℕ) × Sends (a.slot s.slot) (b.slot s.slot) front × (s.buffered ++ bytes ≡ front ++ t.buffered)
   pub fails : s.failed ≡ false → t.failed ≡ true → SendsPrefix (a.slot s.slot) (b.slot s.slot) (s.buffered ++ bytes) × Rose (a.slot s.slot).faults (b.slot s.slot).faults
   pub stays : s.failed ≡ true → (t.failed ≡ true) × (b ≡ a)
+
+-- how many bytes were put; the count stays at its greatest value
+abbrev pub LengthPuts : ℕ → ℕ → List ℕ → Type 0
+LengthPuts old new bytes = counted new ≡ counted (old + length bytes)
+
+-- a list of bytes, and whether memory lacked
+pub record ListState : Type 0 where
+  pub list : List ℕ
+  pub failed : Bool
+
+-- where memory lacks, it has lacked from then on
+pub record ListPuts (s t : ListState) (bytes : List ℕ) : Type 0 where
+  pub list : t.failed ≡ false → t.list ≡ s.list ++ bytes
+  pub failed : s.failed ≡ true → t.failed ≡ true

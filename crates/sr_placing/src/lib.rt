@@ -5,6 +5,7 @@
 mod chains;
 mod core;
 mod counts;
+mod length;
 mod placing;
 mod sink;
 mod spelling;
@@ -12,7 +13,8 @@ mod step;
 mod uses;
 mod write;
 
+
 pub use core::core_bytes;
 pub use counts::{Sizes, statistics};
 pub use placing::Placing;
-pub use write::lsr_bytes;
+

@@ -11,36 +11,36 @@ ghost use Rattle.sr_load.specs.Loaded.{all_lines, all_in, next_of};
 ghost use Rattle.sr_placing.specs.Placing.{steps_of, placing_of};
 
 use crate::placing::Placing;
+use crate::sink::Sink;
 use crate::step::{put_deletion, put_last, put_step};
-use sr_base::{ByteList, Form, NoMemory};
+use sr_base::Form;
 use sr_load::Loaded;
 use sr_steps::StepTable;
-use std::alloc::Global;
 
-/// The bytes of the trimmed proof: first the deletion of the formula's clauses that aren't cited, then the steps, each but the
-/// last with the deletion of what it is the last to cite. A step's clause has its pivot first.
-pub fn lsr_bytes<L: Loaded>(
-    alloc: Global,
+/// The trimmed proof: first the deletion of the formula's clauses that aren't cited, then the steps, each but the last with the
+/// deletion of what it is the last to cite. A step's clause has its pivot first.
+pub fn put_lsr<L: Loaded, O, S: Sink<O>>(
     form: Form,
+    sink: &mut S,
+    out: &mut O,
     loaded: &L,
     steps: &StepTable,
     placing: &Placing,
-) -> Result<ByteList, NoMemory>
+)
+    requires can { S.can_put sink.old out.old }
     requires linked { AreLinked (length (L.state loaded.now).formula.clauses) (steps_of (L.state loaded.now) steps.now) }
     requires from { AreFrom (L.state loaded.now).formula.clauses (all_lines (L.state loaded.now)) (steps_of (L.state loaded.now) steps.now) }
     requires lean { LeanByNeed (all_in (L.state loaded.now)) (steps_of (L.state loaded.now) steps.now) }
     requires small { next_of (L.state loaded.now) ≤ 2147483647 }
     requires placed { placing.now ≡ placing_of (L.state loaded.now).formula.clauses (steps_of (L.state loaded.now) steps.now) }
-    ensures { IfOk result (λ bytes. (ts : List Step) × AreStepsRewritten (steps_of (L.state loaded.now) steps.now) ts
-        × (bytes ≡ written_items form (placed (L.state loaded.now).formula.clauses ts))) }
+    ensures { (ts : List Step) × AreStepsRewritten (steps_of (L.state loaded.now) steps.now) ts
+        × S.puts sink.old out.old sink.new out.new (written_items form (placed (L.state loaded.now).formula.clauses ts)) }
 {
-    let mut out = ByteList::new(alloc);
-    put_deletion(form, &mut out, loaded.formula().count(), placing.uncited())?;
+    put_deletion(form, sink, out, loaded.formula().count(), placing.uncited());
     let last = steps.len() - 1;
     for i in 0..last {
-        put_step(form, &mut out, loaded, steps, i)?;
-        put_deletion(form, &mut out, steps.id(i), placing.drops(i))?;
+        put_step(form, sink, out, loaded, steps, i);
+        put_deletion(form, sink, out, steps.id(i), placing.drops(i));
     }
-    put_last(form, &mut out, steps, last)?;
-    Ok(out)
+    put_last(form, sink, out, steps, last);
 }

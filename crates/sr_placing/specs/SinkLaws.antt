@@ -1,10 +1,11 @@
 -- What was put is put after what was put before.
-use Rattle.std.proofs.Common.{◌≡◌, ℕ, ◌+◌, ◌≤◌, Bool, true, false, List, [], ◌∷◌, ◌++◌, refl, sym, ◌∙◌, ap, subst, arith, append_assoc, append-nil}
+use Rattle.std.proofs.Common.{◌≡◌, ℕ, ◌+◌, ◌≤◌, Bool, true, false, List, [], ◌∷◌, ◌++◌, refl, sym, ◌∙◌, ap, subst, arith, append_assoc, append-nil, length, length-append}
 use Rattle.sr_desk.specs.Outside.{Outside, SlotState, Rose, OnlyWrites}
 use Rattle.sr_desk.specs.Calls.{Sends, SendsPrefix}
 use Rattle.sr_desk.proofs.CallLemmas.{OnlyWrites-refl, OnlyWrites-trans, Sends-none, Sends-trans, Rose-after, Rose-before}
 use Rattle.sr_table.proofs.Paging.{by_test}
-use Rattle.sr_placing.specs.Sinking.{FileState, FilePuts}
+use Rattle.sr_placing.specs.Counting.{counted}
+use Rattle.sr_placing.specs.Sinking.{FileState, FilePuts, LengthPuts, ListState, ListPuts}
 
 pub file_none : (s : FileState) (a : Outside) → FilePuts s a s a []
 file_none s a = record {
@@ -41,3 +42,17 @@ file_joined s a t b u c x y p q = record {
         (front ++ more, (rest,
           sym (append_assoc s.buffered x y) ∙ ap (λ l. l ++ y) e ∙ append_assoc front t.buffered y ∙ ap (λ l. front ++ l) d ∙ sym (append_assoc front more rest),
           Sends-trans sent (subst (λ n. Sends (b.slot n) (c.slot n) more) p.same then)))
+
+pub length_none : (a : ℕ) → LengthPuts a a []
+length_none a = omega arith
+
+pub length_joined : (a b c : ℕ) (x y : List ℕ) → LengthPuts a b x → LengthPuts b c y → LengthPuts a c (x ++ y)
+length_joined a b c x y p q = let long = length-append x y in omega (arith, p, q, long)
+
+pub list_joined : (s t u : ListState) (x y : List ℕ) → ListPuts s t x → ListPuts t u y → ListPuts s u (x ++ y)
+list_joined s t u x y p q = record {
+  list = λ h. by_test t.failed
+    (λ f. let bad : false ≡ true = sym h ∙ q.failed f in absurd cc)
+    (λ f. q.list h ∙ ap (λ l. l ++ y) (p.list f) ∙ append_assoc s.list x y);
+  failed = λ h. q.failed (p.failed h);
+}
