@@ -1,11 +1,14 @@
 -- What was put is put after what was put before.
-use Rattle.std.proofs.Common.{◌≡◌, ℕ, ◌+◌, ◌≤◌, Bool, true, false, List, [], ◌∷◌, ◌++◌, refl, sym, ◌∙◌, ap, subst, arith, append_assoc, append-nil, length, length-append}
-use Rattle.sr_desk.specs.Outside.{Outside, SlotState, Rose, OnlyWrites}
+use Rattle.std.proofs.Common.{◌≡◌, ℕ, ◌+◌, ◌≤◌, Bool, true, false, cond, List, [], ◌∷◌, ◌++◌, refl, sym, ◌∙◌, ap, subst, arith, append_assoc, append-nil, IsTrue, length, length-append}
+use Rattle.sr_desk.specs.Outside.{Outside, SlotState, Rose, OnlyWrites, can_write}
 use Rattle.sr_desk.specs.Calls.{Sends, SendsPrefix}
-use Rattle.sr_desk.proofs.CallLemmas.{OnlyWrites-refl, OnlyWrites-trans, Sends-none, Sends-trans, Rose-after, Rose-before}
+use Rattle.sr_desk.proofs.CallLemmas.{OnlyWrites-refl, OnlyWrites-trans, Sends-none, Sends-trans, Rose-after, Rose-before, can_write-kept}
 use Rattle.sr_table.proofs.Paging.{by_test}
 use Rattle.sr_placing.specs.Counting.{counted}
-use Rattle.sr_placing.specs.Sinking.{FileState, FilePuts, LengthPuts, ListState, ListPuts}
+use Rattle.sr_placing.specs.Sinking.{FileState, FilePuts, kept, LengthPuts, ListState, ListPuts}
+
+pub file_stays : (s : FileState) (a : Outside) (t : FileState) (b : Outside) (x : List ℕ) → IsTrue (can_write a s.slot) → FilePuts s a t b x → IsTrue (can_write b t.slot)
+file_stays s a t b x can p = subst (λ n. IsTrue (can_write b n)) (sym p.same) (can_write-kept p.only can)
 
 pub file_none : (s : FileState) (a : Outside) → FilePuts s a s a []
 file_none s a = record {
@@ -43,11 +46,33 @@ file_joined s a t b u c x y p q = record {
           sym (append_assoc s.buffered x y) ∙ ap (λ l. l ++ y) e ∙ append_assoc front t.buffered y ∙ ap (λ l. front ++ l) d ∙ sym (append_assoc front more rest),
           Sends-trans sent (subst (λ n. Sends (b.slot n) (c.slot n) more) p.same then)))
 
+-- what is kept was put
+kept_by : (b : Bool) (s : FileState) (x : List ℕ) → s.failed ≡ b → kept s x ≡ cond b s (record s { buffered = s.buffered ++ x })
+kept_by b s x e = ap (λ f. cond f s (record s { buffered = s.buffered ++ x })) e
+
+pub file_kept : (s : FileState) (a : Outside) (x : List ℕ) → FilePuts s a (kept s x) a x
+file_kept s a x = by_test s.failed
+    (λ f. subst (λ t. FilePuts s a t a x) (sym (kept_by true s x f)) (record {
+      same = refl; only = OnlyWrites-refl s.slot a;
+      goes_on = λ h g. let bad : false ≡ true = sym h ∙ f in absurd cc;
+      fails = λ h g. let bad : false ≡ true = sym h ∙ f in absurd cc;
+      stays = λ h. (h, refl);
+    }))
+    (λ f. subst (λ t. FilePuts s a t a x) (sym (kept_by false s x f)) (record {
+      same = refl; only = OnlyWrites-refl s.slot a;
+      goes_on = λ h g. ([], Sends-none (a.slot s.slot), refl);
+      fails = λ h g. let bad : false ≡ true = sym h ∙ g in absurd cc;
+      stays = λ h. (h, refl);
+    }))
+
 pub length_none : (a : ℕ) → LengthPuts a a []
 length_none a = omega arith
 
 pub length_joined : (a b c : ℕ) (x y : List ℕ) → LengthPuts a b x → LengthPuts b c y → LengthPuts a c (x ++ y)
 length_joined a b c x y p q = let long = length-append x y in omega (arith, p, q, long)
+
+pub list_none : (s : ListState) → ListPuts s s []
+list_none s = record { list = λ h. sym (append-nil s.list); failed = λ h. h }
 
 pub list_joined : (s t u : ListState) (x y : List ℕ) → ListPuts s t x → ListPuts t u y → ListPuts s u (x ++ y)
 list_joined s t u x y p q = record {

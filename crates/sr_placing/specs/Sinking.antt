@@ -1,5 +1,5 @@
 -- Where bytes are put, one piece after another.
-use Rattle.std.specs.Prelude.{ℕ, ◌≡◌, ◌+◌, Bool, true, false, List, ◌++◌, length}
+use Rattle.std.specs.Prelude.{ℕ, ◌≡◌, ◌+◌, Bool, true, false, cond, List, ◌++◌, length}
 use Rattle.sr_desk.specs.Outside.{Outside, SlotState, Rose, OnlyWrites}
 use Rattle.sr_desk.specs.Calls.{Sends, SendsPrefix}
 use Rattle.sr_placing.specs.Counting.{counted}
@@ -9,6 +9,10 @@ pub record FileState : Type 0 where
   pub slot : ℕ
   pub buffered : List ℕ
   pub failed : Bool
+
+-- these bytes are buffered too, unless a call has failed
+abbrev pub kept : FileState → List ℕ → FileState
+kept s bytes = cond s.failed s (record s { buffered = s.buffered ++ bytes })
 
 -- these bytes were put: a part of what was buffered and they was sent, and the rest is buffered; or a call failed, and a
 -- prefix was sent. Once one has failed, nothing is sent.

@@ -2,6 +2,8 @@
 //! last use, and the clauses of the formula that are cited.
 #![tactic(auto)]
 
+mod buffer;
+mod bytes;
 mod chains;
 mod core;
 mod counts;
