@@ -48,7 +48,7 @@ cited_same n [] (t ∷ ts) r = absurd r
 cited_same n (s ∷ ss) [] r = absurd r
 cited_same n (s ∷ ss) (t ∷ ts) r = ap (λ b. b || is_cited n ss) (cites_same n s t r.0) ∙ ap (λ b. cites n t || b) (cited_same n ss ts r.1)
 
-last_same : (known mem : Numbered) (s t : Step) (ss ts : List Step) → numbers known ≡ numbers mem → IsStepRewritten s t → AreStepsRewritten ss ts → last_cited known s ss ≡ last_cited mem t ts
+pub last_same : (known mem : Numbered) (s t : Step) (ss ts : List Step) → numbers known ≡ numbers mem → IsStepRewritten s t → AreStepsRewritten ss ts → last_cited known s ss ≡ last_cited mem t ts
 last_same known mem s t ss ts e r rs =
     numbers_filter (λ n. cites n s && not (is_cited n ss)) known
     ∙ filter_same (λ n. cites n s && not (is_cited n ss)) (λ n. cites n t && not (is_cited n ts)) (numbers known)
@@ -59,7 +59,7 @@ numbers_append : (xs ys : Numbered) → numbers (xs ++ ys) ≡ numbers xs ++ num
 numbers_append [] ys = refl
 numbers_append (x ∷ xs) ys = ap (λ l. x.0 ∷ l) (numbers_append xs ys)
 
-known_same : (known mem : Numbered) (s t : Step) → numbers known ≡ numbers mem → IsStepRewritten s t → numbers (known_after known s) ≡ numbers (known_after mem t)
+pub known_same : (known mem : Numbered) (s t : Step) → numbers known ≡ numbers mem → IsStepRewritten s t → numbers (known_after known s) ≡ numbers (known_after mem t)
 known_same known mem s t e r =
     numbers_append known ((s.id, s.clause) ∷ []) ∙ ap (λ l. l ++ s.id ∷ []) e ∙ ap (λ n. numbers mem ++ n ∷ []) r.id ∙ sym (numbers_append mem ((t.id, t.clause) ∷ []))
 

@@ -1,5 +1,5 @@
 -- Where bytes are put, one piece after another.
-use Rattle.std.specs.Prelude.{ℕ, ◌≡◌, ◌+◌, Bool, true, false, cond, List, ◌++◌, length}
+use Rattle.std.specs.Prelude.{ℕ, ◌≡◌, ◌+◌, Bool, true, false, cond, List, ◌++◌, length, Result, Ok, Err}
 use Rattle.sr_desk.specs.Outside.{Outside, SlotState, Rose, OnlyWrites}
 use Rattle.sr_desk.specs.Calls.{Sends, SendsPrefix}
 use Rattle.sr_placing.specs.Counting.{counted}
@@ -22,6 +22,11 @@ pub record FilePuts (s : FileState) (a : Outside) (t : FileState) (b : Outside) 
   pub goes_on : s.failed ≡ false → t.failed ≡ false → (front : List ℕ) × Sends (a.slot s.slot) (b.slot s.slot) front × (s.buffered ++ bytes ≡ front ++ t.buffered)
   pub fails : s.failed ≡ false → t.failed ≡ true → SendsPrefix (a.slot s.slot) (b.slot s.slot) (s.buffered ++ bytes) × Rose (a.slot s.slot).faults (b.slot s.slot).faults
   pub stays : s.failed ≡ true → (t.failed ≡ true) × (b ≡ a)
+
+-- these bytes were sent; or a call failed, and a prefix of them was
+abbrev pub SendsAll : {E : Type 0} → ℕ → Outside → Outside → List ℕ → Result (Unit {0}) E → Type 0
+SendsAll n a b bytes (Ok v) = Sends (a.slot n) (b.slot n) bytes
+SendsAll n a b bytes (Err e) = SendsPrefix (a.slot n) (b.slot n) bytes
 
 -- how many bytes were put; the count stays at its greatest value
 abbrev pub LengthPuts : ℕ → ℕ → List ℕ → Type 0

@@ -1,5 +1,6 @@
 // The length of what is put.
 ghost use Rattle.std.specs.Prelude.{◌≡◌, length};
+ghost use Rattle.sr_placing.specs.Counting.{counted};
 ghost use Rattle.sr_placing.specs.Sinking.{LengthPuts};
 
 use crate::sink::Sink;
@@ -7,7 +8,23 @@ use crate::sink::Sink;
 /// How many bytes were put. The count stays at 2^64 - 1 once it is there.
 #[derive(Clone, Copy)]
 pub struct Length {
-    pub bytes: u64,
+    bytes: u64,
+}
+
+impl Length {
+    /// Nothing was put.
+    pub fn new() -> Length
+        ensures { result.bytes ≡ 0 }
+    {
+        Length { bytes: 0 }
+    }
+
+    /// The count.
+    pub fn count(self) -> u64
+        ensures { result ≡ counted self.bytes }
+    {
+        self.bytes
+    }
 }
 
 impl Sink<()> for Length {

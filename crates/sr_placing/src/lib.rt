@@ -18,5 +18,7 @@ mod write;
 
 pub use core::core_bytes;
 pub use counts::{Sizes, statistics};
+pub use buffer::Buffer;
 pub use placing::Placing;
+pub use write::{lsr_bytes, lsr_length, write_lsr};
 
