@@ -16,7 +16,7 @@ mod uses;
 mod write;
 
 
-pub use core::core_bytes;
+pub use core::{core_bytes, core_length, write_core};
 pub use counts::{Sizes, statistics};
 pub use buffer::Buffer;
 pub use placing::Placing;

@@ -44,7 +44,7 @@ fn spell_value(bytes: &mut [u8; 5], value: u64) -> usize
 }
 
 /// Puts a number in text, without the space behind it.
-fn put_digits<O, S: Sink<O>>(sink: &mut S, out: &mut O, x: i64)
+pub fn put_digits<O, S: Sink<O>>(sink: &mut S, out: &mut O, x: i64)
     requires can { S.can_put sink.old out.old }
     ensures { S.puts sink.old out.old sink.new out.new (signed_decimal x) }
 {
