@@ -111,7 +111,7 @@ one_laid ss ts i s t a h is r = record {
 -- the bytes of one more step with its deletion
 pub one_more_bytes : (form : Form) (f : List (List Literal)) (ss ts : List Step) (i : ℕ) (s t : Step) → AreLaid ss i ts → i < length (drops_from (numbered_from 1 f) ss) → IsStepRewritten s t
     → (written_items form (items_so_far f ss ts) ++ written_item form (stepped t)) ++ written_items form (deletion s.id (get_or (drops_from (numbered_from 1 f) ss) i []) [])
-        ≡ written_items form (items_so_far f ss (ts ++ t ∷ []))
+    ≡ written_items form (items_so_far f ss (ts ++ t ∷ []))
 one_more_bytes form f ss ts i s t a h r =
     let drops : List (List ℕ) = drops_from (numbered_from 1 f) ss in
     let first : List Item = deletion (length f) (uncited f ss) [] in
@@ -134,10 +134,11 @@ last_bytes form f ss ts i s a long is same =
     ap (λ u. deletion (length f) u (placed_from (numbered_from 1 f) (ts ++ s ∷ []))) (sym (uncited_same f ss (ts ++ s ∷ []) rewritten))
     ∙ ap (λ l. deletion (length f) (uncited f ss) l) (all_laid (numbered_from 1 f) (numbered_from 1 f) ss ts s refl rewritten)
     ∙ sym (deletion_append (length f) (uncited f ss) [] (laid drops ts ++ stepped s ∷ []))
-    ∙ sym (append_assoc (deletion (length f) (uncited f ss) []) (laid drops ts) (stepped s ∷ [])) in
-    (rewritten,
+    ∙ sym (append_assoc (deletion (length f) (uncited f ss) []) (laid drops ts) (stepped s ∷ [])) in (
+      rewritten,
       ap (λ l. written_items form (items_so_far f ss ts) ++ l) (sym (append-nil (written_item form (stepped s))))
-      ∙ sym (ap (written_items form) items ∙ items_append form (items_so_far f ss ts) (stepped s ∷ [])))
+          ∙ sym (ap (written_items form) items ∙ items_append form (items_so_far f ss ts) (stepped s ∷ [])),
+    )
 
 pub drops_count : (known : Numbered) (ss : List Step) → length (drops_from known ss) ≡ length ss
 drops_count known [] = refl

@@ -1,5 +1,5 @@
 -- Steps and deletions by the parts that are put.
-use Rattle.std.proofs.Common.{◌≡◌, ◌≢◌, ◌∙◌, ℕ, ℤ, pos, ◌+◌, ◌<◌, refl, sym, ap, List, [], ◌∷◌, ◌++◌, cond, Bool, true, false, not, Some, None, length, map, take, get_or, append_assoc, append-nil}
+use Rattle.std.proofs.Common.{◌≡◌, ◌≢◌, ◌∙◌, ℕ, ℤ, pos, ◌+◌, ◌<◌, refl, sym, ap, List, [], ◌∷◌, ◌++◌, not, Some, None, length, map, take, get_or, append_assoc, append-nil}
 use Rattle.std.specs.Prelude.{filter, codes, decimal}
 use Rattle.std.proofs.lemmas.List.{take_more}
 use Rattle.std.proofs.lemmas.List.Elements.{filter-append}

@@ -1,5 +1,5 @@
 -- What was sent of a file when it ends.
-use Rattle.std.proofs.Common.{◌≡◌, ℕ, true, false, List, [], ◌++◌, refl, sym, ◌∙◌, ap, subst, append-nil}
+use Rattle.std.proofs.Common.{◌≡◌, ℕ, true, false, List, [], ◌++◌, sym, ◌∙◌, ap, subst, append-nil}
 use Rattle.std.specs.Prelude.{Result, Ok, Err, OnOk, OnErr}
 use Rattle.sr_desk.specs.Outside.{Outside, OnlyWrites, HasCause}
 use Rattle.sr_desk.specs.Calls.{Sends, SendsPrefix}

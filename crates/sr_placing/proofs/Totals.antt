@@ -1,5 +1,5 @@
 -- However a clause's literals are ordered, as many bytes are written.
-use Rattle.std.proofs.Common.{◌≡◌, ◌≢◌, ℕ, ℤ, pos, suc, zero, ◌+◌, ◌<◌, ◌≤◌, Bool, true, false, not, cond, List, [], ◌∷◌, ◌++◌, refl, sym, ◌∙◌, ap, subst, arith, length, length-append, map}
+use Rattle.std.proofs.Common.{◌≡◌, ℕ, ◌+◌, true, false, not, List, [], ◌∷◌, ◌++◌, refl, sym, ◌∙◌, ap, arith, length, length-append}
 use Rattle.std.specs.Prelude.{filter, sum_by}
 use Rattle.sr_base.specs.Literal.{Literal, number, same, has, NoRepeats, SameSet}
 use Rattle.std.proofs.lemmas.List.Sums.{sum_by-cons}
@@ -8,12 +8,12 @@ use Rattle.sr_base.proofs.Plain.{filter_absent}
 use Rattle.sr_base.specs.declared.names.Form.{Form}
 use Rattle.sr_model.specs.Chain.{Numbered}
 use Rattle.sr_model.specs.Meeting.{Step}
-use Rattle.sr_model.specs.Judging.{Item, stepped, dropped, numbered_from}
-use Rattle.sr_model.specs.Writing.{witness_written, literals_written, hints_written, step_numbers, written_item, written_items}
+use Rattle.sr_model.specs.Judging.{Item, stepped, numbered_from}
+use Rattle.sr_model.specs.Writing.{witness_written, literals_written, written_item, written_items}
 use Rattle.sr_trimming.specs.Placing.{numbers, deletion, last_cited, placed_from, uncited, placed}
-use Rattle.sr_trimming.specs.Reordered.{IsReordered, IsRewritten, IsStepRewritten, AreStepsRewritten}
+use Rattle.sr_trimming.specs.Reordered.{IsReordered, IsStepRewritten, AreStepsRewritten}
 use Rattle.sr_trimming.proofs.Placed.{known_after}
-use Rattle.sr_scan.specs.Written.{written_number, written_numbers, written_literals, written_end}
+use Rattle.sr_scan.specs.Written.{written_number, written_numbers, written_literals}
 use Rattle.sr_scan.proofs.WriteLemmas.{literals_written_append}
 use Rattle.sr_model.proofs.Soundness.{has_kept}
 use Rattle.sr_trimming.proofs.Reordered.{no_repeats_kept}

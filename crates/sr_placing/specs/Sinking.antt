@@ -1,6 +1,6 @@
 -- Where bytes are put, one piece after another.
 use Rattle.std.specs.Prelude.{ℕ, ◌≡◌, ◌+◌, Bool, true, false, cond, List, ◌++◌, length, Result, Ok, Err}
-use Rattle.sr_desk.specs.Outside.{Outside, SlotState, Rose, OnlyWrites}
+use Rattle.sr_desk.specs.Outside.{Outside, Rose, OnlyWrites}
 use Rattle.sr_desk.specs.Calls.{Sends, SendsPrefix}
 use Rattle.sr_placing.specs.Counting.{counted}
 

@@ -86,11 +86,7 @@ pub fn core_length(formula: &Formula, placing: &Placing) -> u64
 }
 
 /// The text of the core.
-pub fn core_bytes(
-    alloc: Global,
-    formula: &Formula,
-    placing: &Placing,
-) -> Result<ByteList, NoMemory>
+pub fn core_bytes(alloc: Global, formula: &Formula, placing: &Placing) -> Result<ByteList, NoMemory>
     requires { (ss : List Step) × (placing.now ≡ placing_of formula.now.clauses ss) }
     ensures { (ss : List Step) → placing.now ≡ placing_of formula.now.clauses ss
         → IfOk result (λ bytes. bytes ≡ written_formula (record { vars = formula.now.vars; clauses = core formula.now.clauses ss })) }

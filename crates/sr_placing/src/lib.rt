@@ -15,10 +15,8 @@ mod step;
 mod uses;
 mod write;
 
-
+pub use buffer::Buffer;
 pub use core::{core_bytes, core_length, write_core};
 pub use counts::{Sizes, statistics};
-pub use buffer::Buffer;
 pub use placing::Placing;
 pub use write::{lsr_bytes, lsr_length, write_lsr};
-

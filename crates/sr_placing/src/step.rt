@@ -42,13 +42,7 @@ fn put_ids<O, S: Sink<O>>(form: Form, sink: &mut S, out: &mut O, ids: &[ClauseId
 }
 
 /// A group is the number of its clause, negative, and its hints.
-fn put_group<O, S: Sink<O>>(
-    form: Form,
-    sink: &mut S,
-    out: &mut O,
-    id: ClauseId,
-    hints: &[ClauseId],
-)
+fn put_group<O, S: Sink<O>>(form: Form, sink: &mut S, out: &mut O, id: ClauseId, hints: &[ClauseId])
     requires can { S.can_put sink.old out.old }
     requires small { IsSmallGroup (id, hints.now) }
     ensures { S.puts sink.old out.old sink.new out.new (written_numbers form (groups_written ((id, hints.now) ∷ []))) }
@@ -57,31 +51,25 @@ fn put_group<O, S: Sink<O>>(
     put_ids(form, sink, out, hints);
 }
 
-fn put_groups<O, S: Sink<O>>(
-    form: Form,
-    sink: &mut S,
-    out: &mut O,
-    steps: &StepTable,
-    i: usize,
-)
+fn put_groups<O, S: Sink<O>>(form: Form, sink: &mut S, out: &mut O, steps: &StepTable, i: usize)
     requires can { S.can_put sink.old out.old }
     requires index { i < length steps.now }
     requires small { All IsSmallGroup (slice_index_or steps.now i (bare 0 false)).groups }
     ensures { S.puts sink.old out.old sink.new out.new (written_numbers form (groups_written (slice_index_or steps.now i (bare 0 false)).groups)) }
 {
     for j in 0..steps.group_count(i) {
-        put_group(form, sink, out, steps.group_id(i, j), steps.group_hints(i, j));
+        put_group(
+            form,
+            sink,
+            out,
+            steps.group_id(i, j),
+            steps.group_hints(i, j),
+        );
     }
 }
 
 /// The hints of a step, and the `0`s before and after them.
-fn put_hints<O, S: Sink<O>>(
-    form: Form,
-    sink: &mut S,
-    out: &mut O,
-    steps: &StepTable,
-    i: usize,
-)
+fn put_hints<O, S: Sink<O>>(form: Form, sink: &mut S, out: &mut O, steps: &StepTable, i: usize)
     requires can { S.can_put sink.old out.old }
     requires index { i < length steps.now }
     requires small { IsSmallKept (slice_index_or steps.now i (bare 0 false)) }
@@ -126,13 +114,7 @@ pub fn put_literals<O, S: Sink<O>>(form: Form, sink: &mut S, out: &mut O, lits: 
 }
 
 /// The pivot of a clause, and then its other literals.
-fn put_pivot_first<O, S: Sink<O>>(
-    form: Form,
-    sink: &mut S,
-    out: &mut O,
-    pivot: Lit,
-    lits: &[Lit],
-)
+fn put_pivot_first<O, S: Sink<O>>(form: Form, sink: &mut S, out: &mut O, pivot: Lit, lits: &[Lit])
     requires { S.can_put sink.old out.old }
     ensures { S.puts sink.old out.old sink.new out.new (written_literals form (put_first pivot lits.now)) }
 {
@@ -163,13 +145,7 @@ fn put_pairs<O, S: Sink<O>>(form: Form, sink: &mut S, out: &mut O, maps: &[(Lit,
 }
 
 /// Where there are maps, the pivot and these.
-fn put_maps<O, S: Sink<O>>(
-    form: Form,
-    sink: &mut S,
-    out: &mut O,
-    pivot: Lit,
-    maps: &[(Lit, Lit)],
-)
+fn put_maps<O, S: Sink<O>>(form: Form, sink: &mut S, out: &mut O, pivot: Lit, maps: &[(Lit, Lit)])
     requires { S.can_put sink.old out.old }
     ensures { S.puts sink.old out.old sink.new out.new (written_literals form (maps_written pivot maps.now)) }
 {
@@ -247,13 +223,7 @@ pub fn put_step<L: Loaded, O, S: Sink<O>>(
 }
 
 /// The step of the empty clause.
-pub fn put_last<O, S: Sink<O>>(
-    form: Form,
-    sink: &mut S,
-    out: &mut O,
-    steps: &StepTable,
-    i: usize,
-)
+pub fn put_last<O, S: Sink<O>>(form: Form, sink: &mut S, out: &mut O, steps: &StepTable, i: usize)
     requires can { S.can_put sink.old out.old }
     requires index { i < length steps.now }
     requires small { IsSmallKept (slice_index_or steps.now i (bare 0 false)) }

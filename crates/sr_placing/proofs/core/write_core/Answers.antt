@@ -1,4 +1,3 @@
-use Rattle.std.proofs.Common.{List}
 use Rattle.sr_model.specs.Writing.{written_formula}
 use Rattle.sr_trimming.specs.Citing.{core}
 use Rattle.sr_placing.proofs.Sending.{file_ended}

@@ -1,4 +1,4 @@
-use Rattle.std.proofs.Common.{◌≡◌, ℕ, List, false, get_or, subst, arith}
+use Rattle.std.proofs.Common.{ℕ, List, false, get_or, subst, arith}
 use Rattle.sr_model.specs.Meeting.{Group}
 use Rattle.sr_wit.proofs.GroupLemmas.{group_at}
 use Rattle.sr_steps.specs.Adding.{bare}
@@ -12,6 +12,6 @@ loop-j-preserved g c =
     record {
       can = g.met.S.Sink.stays _ _ _ _ _ c.loop-j.invariant.can c.put_group.ensures;
       put = subst (λ (x : List ℕ). g.S.Sink.puts c.args.sink.now c.args.out.now c.put_group.new.sink c.put_group.new.out x)
-      (group_more c.args.form groups c.loop-j.j (c.group_id.result, c.group_hints.result.now) (omega arith)
-      (group_at groups c.loop-j.j c.group_id.result c.group_hints.result.now (omega arith) c.group_id.ensures c.group_hints.ensures)) both;
+          (group_more c.args.form groups c.loop-j.j (c.group_id.result, c.group_hints.result.now) (omega arith)
+          (group_at groups c.loop-j.j c.group_id.result c.group_hints.result.now (omega arith) c.group_id.ensures c.group_hints.ensures)) both;
     }

@@ -1,4 +1,4 @@
-use Rattle.std.proofs.Common.{◌≡◌, ◌∙◌, ◌++◌, ℕ, List, true, false, cond, Some, None, ap, sym, subst}
+use Rattle.std.proofs.Common.{◌≡◌, ◌∙◌, ◌++◌, ℕ, List, cond, Some, None, ap, sym, subst}
 use Rattle.std.specs.Option.{option_copied}
 use Rattle.sr_base.specs.Literal.{Literal}
 use Rattle.sr_model.specs.Substitution.{IsPivot}
@@ -22,11 +22,13 @@ returns-then-by_witness-clause-put g c p is =
     witness_is p.stated c.pivot-pivot.result first ∙ ap (λ o. Some (witness_or c.pivot-pivot.result o)) (c.witness.ensures p is) in
     let chosen : cond c.args.by_witness (witness_of p.stated) None ≡ Some (witness_or c.pivot-pivot.result (option_copied c.witness.result)) = rw c.if-by_witness.true written in
     let bytes : written_literals c.args.form own ++ written_literals c.args.form (witness_written (Some (witness_or c.pivot-pivot.result (option_copied c.witness.result))))
-        ≡ written_numbers c.args.form (literals_written own (cond c.args.by_witness (witness_of p.stated) None)) =
-    literals_put c.args.form own (witness_or c.pivot-pivot.result (option_copied c.witness.result)) ∙ ap (λ o. written_numbers c.args.form (literals_written own o)) (sym chosen) in
-    (own, rewritten,
+    ≡ written_numbers c.args.form (literals_written own (cond c.args.by_witness (witness_of p.stated) None)) =
+    literals_put c.args.form own (witness_or c.pivot-pivot.result (option_copied c.witness.result)) ∙ ap (λ o. written_numbers c.args.form (literals_written own o)) (sym chosen) in (
+      own,
+      rewritten,
       subst (λ (x : List ℕ). g.S.Sink.puts c.args.sink.now c.args.out.now c.put_witness.new.sink c.put_witness.new.out x) bytes
-      (g.met.S.Sink.joined _ _ _ _ _ _ _ _ c.put_pivot_first.ensures c.put_witness.ensures))
+          (g.met.S.Sink.joined _ _ _ _ _ _ _ _ c.put_pivot_first.ensures c.put_witness.ensures),
+    )
 
 pub returns-else-by_witness-clause-put : goal.returns-else-by_witness-clause-put
 returns-else-by_witness-clause-put g c p is =

@@ -1,6 +1,4 @@
-use Rattle.std.proofs.Common.{◌≡◌, ℕ, List, [], ◌∷◌, ◌++◌, take, subst, ap}
-use Rattle.sr_model.specs.Writing.{flat}
-use Rattle.sr_scan.specs.Written.{written_literals}
+use Rattle.std.proofs.Common.{ℕ, List, subst}
 use Rattle.sr_placing.proofs.Putting.{pair_more}
 use Rattle.sr_placing.proofs.step.put_pairs.Goals as goal
 
@@ -11,5 +9,5 @@ loop-map-preserved g c =
     record {
       can = g.met.S.Sink.stays _ _ _ _ _ (g.met.S.Sink.stays _ _ _ _ _ c.loop-map.invariant.can c.put_literal.ensures) c.put_literal-in-loop-map.ensures;
       put = subst (λ (x : List ℕ). g.S.Sink.puts c.args.sink.now c.args.out.now c.put_literal-in-loop-map.new.sink c.put_literal-in-loop-map.new.out x)
-      (pair_more c.args.form c.args.maps.now c.loop-map.map-index c.map-item.result c.loop-map-test.true c.map-item.is) second;
+          (pair_more c.args.form c.args.maps.now c.loop-map.map-index c.map-item.result c.loop-map-test.true c.map-item.is) second;
     }

@@ -1,4 +1,4 @@
-use Rattle.std.proofs.Common.{◌≡◌, ◌∙◌, ◌++◌, ℕ, List, cond, None, Some, false, get_or, ap, refl, sym, subst}
+use Rattle.std.proofs.Common.{◌≡◌, ◌∙◌, ◌++◌, ℕ, List, cond, None, false, get_or, ap, refl, sym, subst}
 use Rattle.sr_model.specs.Meeting.{Step}
 use Rattle.sr_model.specs.Judging.{stepped}
 use Rattle.sr_model.specs.Writing.{literals_written, written_item}
@@ -20,7 +20,9 @@ returns-clause-put g c p is =
     let bytes : (start_put c.args.form c.id.result ++ written_numbers c.args.form (literals_written put.0 (cond c.is_by_witness.result (witness_of p.stated) None))) ++ hints_put c.args.form k ≡ written_item c.args.form (stepped t) =
     ap (λ (n : ℕ). (start_put c.args.form n ++ written_numbers c.args.form (literals_written put.0 (cond c.is_by_witness.result (witness_of p.stated) None))) ++ hints_put c.args.form k) c.id.ensures
     ∙ ap (λ b. (start_put c.args.form k.id ++ written_numbers c.args.form (literals_written put.0 (cond b (witness_of p.stated) None))) ++ hints_put c.args.form k) c.is_by_witness.ensures
-    ∙ step_put c.args.form t k refl refl refl in
-    (t, record { id = refl; clause = put.1; witness = refl; prefix = refl; groups = refl },
+    ∙ step_put c.args.form t k refl refl refl in (
+      t,
+      record { id = refl; clause = put.1; witness = refl; prefix = refl; groups = refl },
       subst (λ (x : List ℕ). g.S.Sink.puts c.args.sink.now c.args.out.now c.put_hints.new.sink c.put_hints.new.out x) bytes
-      (g.met.S.Sink.joined _ _ _ _ _ _ _ _ (g.met.S.Sink.joined _ _ _ _ _ _ _ _ c.put_start.ensures put.2) c.put_hints.ensures))
+          (g.met.S.Sink.joined _ _ _ _ _ _ _ _ (g.met.S.Sink.joined _ _ _ _ _ _ _ _ c.put_start.ensures put.2) c.put_hints.ensures),
+    )

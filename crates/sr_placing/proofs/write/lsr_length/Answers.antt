@@ -1,10 +1,7 @@
-use Rattle.std.proofs.Common.{◌≡◌, ◌+◌, List, length, sym, ◌∙◌, ap, arith}
+use Rattle.std.proofs.Common.{List, arith}
 use Rattle.sr_model.specs.Meeting.{Step}
-use Rattle.sr_model.specs.Writing.{written_items}
-use Rattle.sr_trimming.specs.Placing.{placed}
 use Rattle.sr_load.specs.Loaded.{LoadedState}
 use Rattle.sr_placing.specs.Placing.{steps_of}
-use Rattle.sr_placing.specs.Counting.{counted}
 use Rattle.sr_placing.proofs.Totals.{as_long}
 use Rattle.sr_placing.proofs.write.lsr_length.Goals as goal
 

@@ -1,4 +1,4 @@
-use Rattle.std.proofs.Common.{◌≡◌, ◌∙◌, ◌++◌, ℕ, ◌+◌, ◌-◌, ◌<◌, false, List, [], ◌∷◌, None, Some, length, get_or, ap, sym, subst, arith, append-nil}
+use Rattle.std.proofs.Common.{◌≡◌, ◌∙◌, ◌++◌, ℕ, ◌-◌, false, List, [], ◌∷◌, None, Some, length, get_or, ap, sym, subst, arith, append-nil}
 use Rattle.std.specs.Prelude.{All}
 use Rattle.sr_model.specs.Meeting.{Step}
 use Rattle.sr_model.specs.Judging.{numbered_from, stepped}
@@ -96,15 +96,18 @@ loop-i-preserved g c =
     let had = c.loop-i.invariant.put in
     let many = steps_count st c.args.steps.now in
     let bytes : (written_items c.args.form (items_so_far st.formula.clauses ss had.0) ++ written_item c.args.form (stepped put.0)) ++ written_items c.args.form (deletion c.id.result c.drops.result.now [])
-        ≡ written_items c.args.form (items_so_far st.formula.clauses ss (had.0 ++ put.0 ∷ [])) =
+    ≡ written_items c.args.form (items_so_far st.formula.clauses ss (had.0 ++ put.0 ∷ [])) =
     ap (λ (n : ℕ). (written_items c.args.form (items_so_far st.formula.clauses ss had.0) ++ written_item c.args.form (stepped put.0)) ++ written_items c.args.form (deletion n c.drops.result.now [])) number
     ∙ ap (λ l. (written_items c.args.form (items_so_far st.formula.clauses ss had.0) ++ written_item c.args.form (stepped put.0)) ++ written_items c.args.form (deletion s.id l [])) ids
     ∙ one_more_bytes c.args.form st.formula.clauses ss had.0 c.loop-i.i s put.0 had.1 (omega (arith, ready.drops)) rewritten in
     record {
       can = g.met.S.Sink.stays _ _ _ _ _ c.put_step.ensures.can c.put_deletion-in-loop-i.ensures;
-      put = (had.0 ++ put.0 ∷ [], one_laid ss had.0 c.loop-i.i s put.0 had.1 (omega arith) (step_got st c.args.steps.now c.loop-i.i (bare 0 false) (omega arith)) rewritten,
+      put = (
+        had.0 ++ put.0 ∷ [],
+        one_laid ss had.0 c.loop-i.i s put.0 had.1 (omega arith) (step_got st c.args.steps.now c.loop-i.i (bare 0 false) (omega arith)) rewritten,
         subst (λ (x : List ℕ). g.S.Sink.puts c.args.sink.now c.args.out.now c.put_deletion-in-loop-i.new.sink c.put_deletion-in-loop-i.new.out x) bytes
-        (g.met.S.Sink.joined _ _ _ _ _ _ _ _ (g.met.S.Sink.joined _ _ _ _ _ _ _ _ had.2 put.2) c.put_deletion-in-loop-i.ensures));
+            (g.met.S.Sink.joined _ _ _ _ _ _ _ _ (g.met.S.Sink.joined _ _ _ _ _ _ _ _ had.2 put.2) c.put_deletion-in-loop-i.ensures),
+      );
     }
 
 pub put_last-requires-clause-small : goal.put_last-requires-clause-small
@@ -127,6 +130,8 @@ returns g c =
     let had = c.loop-i.invariant.put in
     let all : AreLaid ss end had.0 = subst (λ (n : ℕ). AreLaid ss n had.0) at_end had.1 in
     let r = last_bytes c.args.form st.formula.clauses ss had.0 end (step_at None k) all (omega (arith, ready.some))
-    (λ e. step_got st c.args.steps.now end (bare 0 false) (omega (arith, ready.some)) e ∙ bare_one) (bare_rewritten k) in
-    (had.0 ++ step_at None k ∷ [], r.0,
-      subst (λ (x : List ℕ). g.S.Sink.puts c.args.sink.now c.args.out.now c.put_last.new.sink c.put_last.new.out x) r.1 (g.met.S.Sink.joined _ _ _ _ _ _ _ _ had.2 c.put_last.ensures))
+    (λ e. step_got st c.args.steps.now end (bare 0 false) (omega (arith, ready.some)) e ∙ bare_one) (bare_rewritten k) in (
+      had.0 ++ step_at None k ∷ [],
+      r.0,
+      subst (λ (x : List ℕ). g.S.Sink.puts c.args.sink.now c.args.out.now c.put_last.new.sink c.put_last.new.out x) r.1 (g.met.S.Sink.joined _ _ _ _ _ _ _ _ had.2 c.put_last.ensures),
+    )

@@ -1,4 +1,3 @@
-use Rattle.std.proofs.Common.{List}
 use Rattle.sr_model.specs.Writing.{written_items}
 use Rattle.sr_trimming.specs.Placing.{placed}
 use Rattle.sr_load.specs.Loaded.{LoadedState}

@@ -1,5 +1,5 @@
-use Rattle.std.proofs.Common.{◌≡◌, List, ℕ, [], subst, sym}
-use Rattle.sr_placing.specs.Sinking.{FileState, FilePuts, kept}
+use Rattle.std.proofs.Common.{[], subst, sym}
+use Rattle.sr_placing.specs.Sinking.{FileState, FilePuts}
 use Rattle.sr_placing.specs.SinkLaws.{file_joined, file_kept}
 use Rattle.sr_placing.proofs.buffer.BufferSink.put.Goals as goal
 
