@@ -2,7 +2,7 @@
 use Rattle.std.proofs.Common.{◌≡◌, ◌≢◌, ℕ, suc, zero, ◌+◌, ◌<◌, ◌≤◌, ◌==◌, ◌-◌, Bool, true, false, cond, List, [], ◌∷◌, ◌++◌, length, get_or, set, take, drop, refl, sym, ◌∙◌, ap, subst, arith, add-one, drop-cons, append_assoc, length-append}
 use Rattle.std.proofs.lemmas.List.{length-set, get_or-set_same, get_or-set_other, take_more, append-nil}
 use Rattle.std.proofs.lemmas.Bool.Decides.{nat_tests}
-use Rattle.sr_table.proofs.Paging.{by_test, by_eq}
+use Rattle.sr_table.proofs.Paging.{by_eq}
 use Rattle.sr_wit.specs.Pieces.{AreEnds, pieces}
 use Rattle.sr_wit.proofs.PieceLemmas.{pieces-push, ends-push}
 use Rattle.sr_placing.specs.Marks.{numbers_where, IsChain, AreChains}
@@ -71,10 +71,10 @@ unmarked marks links heads m c low none = record {
   long = c.long;
   rest = λ k h. c.rest k (omega arith);
   chains = λ i h.
-    let was : get_or marks m 0 ≡ 0 = sym (c.rest m (omega arith)) ∙ none in
-    let not_it : (get_or marks m 0 == i + 1) ≡ false = grind (arith, nat_tests, was) in
-    let same : numbers_where (λ x. x == i + 1) m (drop m marks) ≡ numbers_where (λ x. x == i + 1) (m + 1) (drop (m + 1) marks) = one_more (λ x. x == i + 1) marks m (omega (arith, c.high, c.long)) ∙ rw not_it refl in
-    rw same (chain_lower links (m + 1) m (get_or heads i 0) (numbers_where (λ x. x == i + 1) (m + 1) (drop (m + 1) marks)) (omega arith) (c.chains i h));
+      let was : get_or marks m 0 ≡ 0 = sym (c.rest m (omega arith)) ∙ none in
+      let not_it : (get_or marks m 0 == i + 1) ≡ false = grind (arith, nat_tests, was) in
+      let same : numbers_where (λ x. x == i + 1) m (drop m marks) ≡ numbers_where (λ x. x == i + 1) (m + 1) (drop (m + 1) marks) = one_more (λ x. x == i + 1) marks m (omega (arith, c.high, c.long)) ∙ rw not_it refl in
+      rw same (chain_lower links (m + 1) m (get_or heads i 0) (numbers_where (λ x. x == i + 1) (m + 1) (drop (m + 1) marks)) (omega arith) (c.chains i h));
 }
 
 -- a number with a mark comes first in the chain of that mark
@@ -178,8 +178,7 @@ lists_push links heads i ends numbers ends' numbers' within cut chains (c, chain
     let long : length numbers' ≡ length numbers + length c = ap length laid ∙ length-append numbers c in
     let ends_are : ends' ≡ ends ++ (length numbers + length c) ∷ [] = pushed ∙ ap (λ n. ends ++ n ∷ []) long in
     let more : take (i + 1) heads ≡ take i heads ++ get_or heads i 0 ∷ [] = take_more heads i 0 within in
-    let lists : pieces 0 ends' numbers' ≡ pieces 0 ends numbers ++ c ∷ [] = rw (ends_are, laid) (pieces-push 0 ends numbers c cut) in
-    (
+    let lists : pieces 0 ends' numbers' ≡ pieces 0 ends numbers ++ c ∷ [] = rw (ends_are, laid) (pieces-push 0 ends numbers c cut) in (
       rw (ends_are, long) (ends-push 0 ends (length numbers) (length numbers + length c) cut (omega arith)),
       rw (more, lists) (chains_push links (take i heads) (pieces 0 ends numbers) (get_or heads i 0) c chains chain),
     )

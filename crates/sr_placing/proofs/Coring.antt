@@ -1,16 +1,20 @@
 -- The clauses of the core, by their numbers.
-use Rattle.std.proofs.Common.{◌≡◌, ℕ, suc, zero, ◌+◌, ◌-◌, ◌<◌, ◌≤◌, Bool, true, false, cond, List, [], ◌∷◌, ◌++◌, refl, sym, ◌∙◌, ap, subst, arith, length, get_or, append_assoc}
-use Rattle.std.specs.Prelude.{filter, map, All, slice_index_or}
-use Rattle.std.proofs.lemmas.List.{get_or-append_right, length_push}
-use Rattle.sr_base.specs.Literal.{Literal}
-use Rattle.sr_model.specs.Chain.{Numbered, clauses}
+use Rattle.std.proofs.Common.{◌≡◌, ℕ, suc, zero, ◌+◌, ◌-◌, ◌<◌, ◌≤◌, Bool, List, [], ◌∷◌, ◌++◌, refl, sym, ◌∙◌, ap, subst, arith, length, get_or, take, append_assoc, append-nil}
+use Rattle.std.specs.Prelude.{filter, map, All, slice_index_or, codes, decimal}
+use Rattle.std.proofs.lemmas.List.{length_push, take_more}
+use Rattle.sr_base.specs.Literal.{Literal, number}
+use Rattle.sr_base.specs.declared.names.Form.TheVariants.{Text}
+use Rattle.sr_model.specs.Chain.{clauses}
 use Rattle.sr_model.specs.Meeting.{Step}
 use Rattle.sr_model.specs.Judging.{numbered_from}
 use Rattle.sr_model.specs.Dimacs.{Formula}
-use Rattle.sr_model.specs.Writing.{selected}
+use Rattle.sr_model.specs.Writing.{selected, number_line, clause_lines}
+use Rattle.sr_scan.specs.Written.{written_literals, written_end}
+use Rattle.sr_scan.proofs.WriteLemmas.{spaced_is}
 use Rattle.sr_trimming.specs.Citing.{is_cited, cited_of, core}
 use Rattle.sr_trimming.specs.Placing.{numbers}
-use Rattle.sr_cnf.specs.Written.{IsNumberOf}
+use Rattle.sr_cnf.specs.Written.{IsNumberOf, header}
+use Rattle.sr_cnf.proofs.WriteLemmas.{chosen}
 use Rattle.sr_table.proofs.Paging.{by_test}
 
 -- the clauses of picked numbers are the picked clauses
@@ -45,3 +49,25 @@ of_formula f t n (c ∷ cs) low high =
 
 pub core_numbers : (f : Formula) (ss : List Step) → All (IsNumberOf f) (numbers (cited_of (numbered_from 1 f.clauses) ss))
 core_numbers f ss = of_formula f (λ p. is_cited p.0 ss) 1 f.clauses (omega arith) (omega arith)
+
+-- the text, line after line
+pub header_put : (vars count : ℕ) → (((codes "p cnf " ++ decimal vars) ++ codes " ") ++ decimal count) ++ codes "\n" ≡ header vars count
+header_put vars count = ap (λ x. x ++ codes "\n") (append_assoc (codes "p cnf " ++ decimal vars) (32 ∷ []) (decimal count))
+
+pub line_put : (c : List Literal) → written_literals Text c ++ written_end Text ≡ number_line (map number c)
+line_put c = ap (λ x. x ++ written_end Text) (spaced_is (map number c))
+
+lines_push : (cs : List (List Literal)) (c : List Literal) → clause_lines (cs ++ c ∷ []) ≡ clause_lines cs ++ number_line (map number c)
+lines_push [] c = append-nil (number_line (map number c))
+lines_push (d ∷ ds) c = ap (λ x. number_line (map number d) ++ x) (lines_push ds c) ∙ sym (append_assoc (number_line (map number d)) (clause_lines ds) (number_line (map number c)))
+
+chosen_push : (f : Formula) (ids : List ℕ) (n : ℕ) → chosen f (ids ++ n ∷ []) ≡ chosen f ids ++ slice_index_or f.clauses (n - 1) [] ∷ []
+chosen_push f [] n = refl
+chosen_push f (m ∷ ids) n = ap (λ x. slice_index_or f.clauses (m - 1) [] ∷ x) (chosen_push f ids n)
+
+pub lines_more : (first : List ℕ) (f : Formula) (ids : List ℕ) (i : ℕ) (c : List Literal) → i < length ids → c ≡ slice_index_or f.clauses (get_or ids i 0 - 1) []
+    → (first ++ clause_lines (chosen f (take i ids))) ++ number_line (map number c) ≡ first ++ clause_lines (chosen f (take (i + 1) ids))
+lines_more first f ids i c h is =
+    let more : chosen f (take (i + 1) ids) ≡ chosen f (take i ids) ++ c ∷ [] =
+    ap (chosen f) (take_more ids i 0 h) ∙ chosen_push f (take i ids) (get_or ids i 0) ∙ ap (λ x. chosen f (take i ids) ++ x ∷ []) (sym is) in
+    append_assoc first (clause_lines (chosen f (take i ids))) (number_line (map number c)) ∙ ap (λ x. first ++ x) (sym (ap clause_lines more ∙ lines_push (chosen f (take i ids)) c))

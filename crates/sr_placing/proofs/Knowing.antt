@@ -1,6 +1,6 @@
 -- What linked steps cite: clauses that are known before them.
-use Rattle.std.proofs.Common.{◌≡◌, ℕ, ◌+◌, ◌<◌, ◌≤◌, ◌==◌, Bool, true, false, not, ◌&&◌, ◌||◌, List, [], ◌∷◌, ◌++◌, Option, Some, None, cond, refl, sym, ◌∙◌, ap, subst, arith, length}
-use Rattle.std.specs.Prelude.{filter, nat_le, map, All}
+use Rattle.std.proofs.Common.{◌≡◌, ℕ, ◌<◌, ◌==◌, true, false, not, ◌&&◌, List, [], ◌∷◌, ◌++◌, Option, Some, None, refl, sym, ◌∙◌, ap, subst, arith, length}
+use Rattle.std.specs.Prelude.{filter, nat_le}
 use Rattle.std.proofs.lemmas.Bool.Decides.{nat_tests}
 use Rattle.sr_base.specs.Literal.{Literal, complement, compl, has}
 use Rattle.sr_base.specs.declared.names.Cause.TheVariants.{DeadHint}
@@ -9,10 +9,10 @@ use Rattle.sr_model.specs.Substitution.{Substitution, Witness, has_pair, substit
 use Rattle.sr_model.specs.Chain.{Numbered, clause_of, HintEnd, closes, adds, misleads, hint, hint_of_clause}
 use Rattle.sr_model.specs.Meeting.{Group, Step}
 use Rattle.sr_model.specs.Judging.{numbered_from}
-use Rattle.sr_trimming.specs.Citing.{cites, groups_cite, is_cited, cited_of, below, need, numbered_steps, all_of}
+use Rattle.sr_trimming.specs.Citing.{cites, groups_cite, is_cited, cited_of, below, need, numbered_steps}
 use Rattle.sr_trimming.specs.Placing.{numbers}
 use Rattle.sr_trimming.specs.Backward.{AreLinked}
-use Rattle.sr_trimming.specs.Lean.{no_more, stands_in, is_lean, group_start, needs_group, AreLeanGroups, IsLeanWith, IsLean}
+use Rattle.sr_trimming.specs.Lean.{no_more, stands_in, is_lean, group_start, needs_group, AreLeanGroups, IsLeanWith}
 use Rattle.sr_trimming.specs.Trimmed.{LeanByNeed}
 use Rattle.sr_trimming.specs.Written.{CiteKnown}
 use Rattle.sr_trimming.proofs.Placed.{in_numbers, known_after, RiseTo, rise_formula, rise_push, append_one, need_known}
@@ -107,7 +107,7 @@ cite_known_from known last (s ∷ []) r l k b = (first_known known last s [] r l
 cite_known_from known last (s ∷ t ∷ later) r l k b = (
   first_known known last s (t ∷ later) r l k b.0,
   cite_known_from (known_after known s) s.id (t ∷ later) (rise_push 0 known last s.id s.clause r l.0) l.3
-  (λ n h. subst (λ x. holds_number n (numbers x) ≡ true) (sym (append_one known (numbered_steps (t ∷ later)) (s.id, s.clause))) (k n (grind arith))) b.1,
+      (λ n h. subst (λ x. holds_number n (numbers x) ≡ true) (sym (append_one known (numbered_steps (t ∷ later)) (s.id, s.clause))) (k n (grind arith))) b.1,
 )
 
 pub formula_known : (f : List (List Literal)) (all : Numbered) (ss : List Step) → AreLinked (length f) ss → CiteKnown f ss → LeanByNeed all ss → CiteKnownFrom (numbered_from 1 f) ss

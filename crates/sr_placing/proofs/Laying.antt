@@ -1,19 +1,19 @@
 -- Items are laid one after another.
-use Rattle.std.proofs.Common.{◌≡◌, ℕ, suc, zero, ◌+◌, ◌-◌, ◌<◌, ◌≤◌, ◌==◌, Bool, true, false, not, ◌&&◌, ◌||◌, cond, List, [], ◌∷◌, ◌++◌, refl, sym, ◌∙◌, ap, subst, arith, length, get_or, take, append_assoc, append-nil}
-use Rattle.std.specs.Prelude.{filter, map, flat_map, Option, Some, None}
+use Rattle.std.proofs.Common.{◌≡◌, ℕ, suc, ◌+◌, ◌<◌, not, ◌&&◌, ◌||◌, List, [], ◌∷◌, ◌++◌, refl, sym, ◌∙◌, ap, subst, arith, length, get_or, take, append_assoc, append-nil}
+use Rattle.std.specs.Prelude.{filter}
 use Rattle.std.proofs.lemmas.List.{take_more, take_all, length_push}
 use Rattle.sr_base.specs.Literal.{Literal}
 use Rattle.sr_base.specs.declared.names.Form.{Form}
 use Rattle.sr_model.specs.Assignment.{holds_number}
 use Rattle.sr_model.specs.Chain.{Numbered}
 use Rattle.sr_model.specs.Meeting.{Step}
-use Rattle.sr_model.specs.Judging.{Item, stepped, dropped, numbered_from}
+use Rattle.sr_model.specs.Judging.{Item, stepped, numbered_from}
 use Rattle.sr_model.specs.Writing.{written_item, written_items}
 use Rattle.sr_trimming.specs.Citing.{cites, groups_cite, is_cited}
 use Rattle.sr_trimming.specs.Placing.{numbers, deletion, last_cited, placed_from, uncited, placed}
 use Rattle.sr_trimming.specs.Reordered.{IsStepRewritten, AreStepsRewritten}
 use Rattle.sr_trimming.proofs.Placed.{known_after}
-use Rattle.sr_placing.specs.Placing.{PlacingValue, drops_from, placing_of}
+use Rattle.sr_placing.specs.Placing.{drops_from}
 use Rattle.sr_placing.proofs.Ranging.{filter_same, numbers_filter}
 
 -- the bytes of items one after another
@@ -48,7 +48,7 @@ cited_same n [] (t ∷ ts) r = absurd r
 cited_same n (s ∷ ss) [] r = absurd r
 cited_same n (s ∷ ss) (t ∷ ts) r = ap (λ b. b || is_cited n ss) (cites_same n s t r.0) ∙ ap (λ b. cites n t || b) (cited_same n ss ts r.1)
 
-last_same : (known mem : Numbered) (s t : Step) (ss ts : List Step) → numbers known ≡ numbers mem → IsStepRewritten s t → AreStepsRewritten ss ts → last_cited known s ss ≡ last_cited mem t ts
+pub last_same : (known mem : Numbered) (s t : Step) (ss ts : List Step) → numbers known ≡ numbers mem → IsStepRewritten s t → AreStepsRewritten ss ts → last_cited known s ss ≡ last_cited mem t ts
 last_same known mem s t ss ts e r rs =
     numbers_filter (λ n. cites n s && not (is_cited n ss)) known
     ∙ filter_same (λ n. cites n s && not (is_cited n ss)) (λ n. cites n t && not (is_cited n ts)) (numbers known)
@@ -59,7 +59,7 @@ numbers_append : (xs ys : Numbered) → numbers (xs ++ ys) ≡ numbers xs ++ num
 numbers_append [] ys = refl
 numbers_append (x ∷ xs) ys = ap (λ l. x.0 ∷ l) (numbers_append xs ys)
 
-known_same : (known mem : Numbered) (s t : Step) → numbers known ≡ numbers mem → IsStepRewritten s t → numbers (known_after known s) ≡ numbers (known_after mem t)
+pub known_same : (known mem : Numbered) (s t : Step) → numbers known ≡ numbers mem → IsStepRewritten s t → numbers (known_after known s) ≡ numbers (known_after mem t)
 known_same known mem s t e r =
     numbers_append known ((s.id, s.clause) ∷ []) ∙ ap (λ l. l ++ s.id ∷ []) e ∙ ap (λ n. numbers mem ++ n ∷ []) r.id ∙ sym (numbers_append mem ((t.id, t.clause) ∷ []))
 
@@ -85,15 +85,16 @@ all_laid known mem (s ∷ ss) (x ∷ ts) t e r =
     ∙ ap (λ l. stepped x ∷ deletion x.id (last_cited known s ss) l) more
     ∙ ap (λ l. stepped x ∷ l) (sym (deletion_append x.id (last_cited known s ss) (laid (drops_from (known_after known s) ss) ts) (stepped t ∷ [])))
 
--- the steps so far are laid
-pub record AreLaid (form : Form) (f : List (List Literal)) (ss : List Step) (i : ℕ) (out : List ℕ) : Type 0 where
-  pub steps : List Step
-  pub count : length steps ≡ i
-  pub rewritten : AreStepsRewritten (take i ss) steps
-  pub bytes : out ≡ written_items form (deletion (length f) (uncited f ss) []) ++ written_items form (laid (drops_from (numbered_from 1 f) ss) steps)
+-- the items of the steps so far: the first deletion, and each step with its own
+abbrev pub items_so_far : List (List Literal) → List Step → List Step → List Item
+items_so_far f ss ts = deletion (length f) (uncited f ss) [] ++ laid (drops_from (numbered_from 1 f) ss) ts
 
-pub none_laid : (form : Form) (f : List (List Literal)) (ss : List Step) (out : List ℕ) → out ≡ written_items form (deletion (length f) (uncited f ss) []) → AreLaid form f ss 0 out
-none_laid form f ss out e = record { steps = []; count = refl; rewritten = tt; bytes = e ∙ sym (append-nil (written_items form (deletion (length f) (uncited f ss) []))) }
+pub record AreLaid (ss : List Step) (i : ℕ) (ts : List Step) : Type 0 where
+  pub count : length ts ≡ i
+  pub rewritten : AreStepsRewritten (take i ss) ts
+
+pub none_laid : (ss : List Step) → AreLaid ss 0 []
+none_laid ss = record { count = refl; rewritten = tt }
 
 rewritten_push : (ss ts : List Step) (s t : Step) → AreStepsRewritten ss ts → IsStepRewritten s t → AreStepsRewritten (ss ++ s ∷ []) (ts ++ t ∷ [])
 rewritten_push [] [] s t rs r = (r, tt)
@@ -101,51 +102,43 @@ rewritten_push [] (y ∷ ts) s t rs r = absurd rs
 rewritten_push (x ∷ ss) [] s t rs r = absurd rs
 rewritten_push (x ∷ ss) (y ∷ ts) s t rs r = (rs.0, rewritten_push ss ts s t rs.1 r)
 
--- one more step with its deletion
-pub one_laid : (form : Form) (f : List (List Literal)) (ss : List Step) (i : ℕ) (out put new : List ℕ) (s : Step) → AreLaid form f ss i out → i < length ss → length (drops_from (numbered_from 1 f) ss) ≡ length ss
-    → ((d : Step) → get_or ss i d ≡ s) → ((t : Step) × IsStepRewritten s t × (put ≡ out ++ written_item form (stepped t)))
-    → new ≡ put ++ written_items form (deletion s.id (get_or (drops_from (numbered_from 1 f) ss) i []) []) → AreLaid form f ss (i + 1) new
-one_laid form f ss i out put new s a h long is (t, r, p) n =
-    let drops : List (List ℕ) = drops_from (numbered_from 1 f) ss in
-    let first : List ℕ = written_items form (deletion (length f) (uncited f ss) []) in
-    let gone : List ℕ = written_items form (deletion s.id (get_or drops i []) []) in
-    let dropped_by : deletion s.id (get_or drops i []) [] ≡ deletion t.id (get_or drops (length a.steps) []) [] =
-    ap (λ m. deletion m (get_or drops i []) []) r.id ∙ ap (λ (m : ℕ). deletion t.id (get_or drops m []) []) (sym a.count) in
-    let more : written_items form (laid drops (a.steps ++ t ∷ [])) ≡ written_items form (laid drops a.steps) ++ (written_item form (stepped t) ++ gone) =
-    ap (written_items form) (laid_push drops a.steps t (omega (arith, a.count, long))) ∙ items_append form (laid drops a.steps) (stepped t ∷ deletion t.id (get_or drops (length a.steps) []) [])
-    ∙ ap (λ l. written_items form (laid drops a.steps) ++ (written_item form (stepped t) ++ written_items form l)) (sym dropped_by) in
-    record {
-      steps = a.steps ++ t ∷ [];
-      count = length_push a.steps t ∙ ap (λ m. m + 1) a.count;
-      rewritten = rw (take_more ss i s h, is s) (rewritten_push (take i ss) a.steps s t a.rewritten r);
-      bytes = n ∙ ap (λ l. l ++ gone) (p ∙ ap (λ l. l ++ written_item form (stepped t)) a.bytes)
-      ∙ regroup first (written_items form (laid drops a.steps)) (written_item form (stepped t)) gone ∙ ap (λ l. first ++ l) (sym more);
-    }
-  where
-    regroup : (a b c d : List ℕ) → ((a ++ b) ++ c) ++ d ≡ a ++ (b ++ (c ++ d))
-    regroup a b c d = simp append_assoc
+pub one_laid : (ss ts : List Step) (i : ℕ) (s t : Step) → AreLaid ss i ts → i < length ss → ((d : Step) → get_or ss i d ≡ s) → IsStepRewritten s t → AreLaid ss (i + 1) (ts ++ t ∷ [])
+one_laid ss ts i s t a h is r = record {
+  count = length_push ts t ∙ ap (λ m. m + 1) a.count;
+  rewritten = rw (take_more ss i s h, is s) (rewritten_push (take i ss) ts s t a.rewritten r);
+}
 
--- the last step
-pub last_laid : (form : Form) (f : List (List Literal)) (ss : List Step) (i : ℕ) (out new : List ℕ) (s : Step) → AreLaid form f ss i out → i + 1 ≡ length ss → ((d : Step) → get_or ss i d ≡ s)
-    → IsStepRewritten s s → new ≡ out ++ written_item form (stepped s) → (ts : List Step) × AreStepsRewritten ss ts × (new ≡ written_items form (placed f ts))
-last_laid form f ss i out new s a long is same n =
+-- the bytes of one more step with its deletion
+pub one_more_bytes : (form : Form) (f : List (List Literal)) (ss ts : List Step) (i : ℕ) (s t : Step) → AreLaid ss i ts → i < length (drops_from (numbered_from 1 f) ss) → IsStepRewritten s t
+    → (written_items form (items_so_far f ss ts) ++ written_item form (stepped t)) ++ written_items form (deletion s.id (get_or (drops_from (numbered_from 1 f) ss) i []) [])
+    ≡ written_items form (items_so_far f ss (ts ++ t ∷ []))
+one_more_bytes form f ss ts i s t a h r =
     let drops : List (List ℕ) = drops_from (numbered_from 1 f) ss in
-    let ts : List Step = a.steps ++ s ∷ [] in
-    let pushed : AreStepsRewritten (take (i + 1) ss) ts = rw (take_more ss i s (omega arith), is s) (rewritten_push (take i ss) a.steps s s a.rewritten same) in
-    let rewritten : AreStepsRewritten ss ts = subst (λ l. AreStepsRewritten l ts) (take_all (i + 1) ss (omega arith)) pushed in
-    let items : placed f ts ≡ deletion (length f) (uncited f ss) [] ++ (laid drops a.steps ++ stepped s ∷ []) =
-    ap (λ u. deletion (length f) u (placed_from (numbered_from 1 f) ts)) (sym (uncited_same f ss ts rewritten))
-    ∙ ap (λ l. deletion (length f) (uncited f ss) l) (all_laid (numbered_from 1 f) (numbered_from 1 f) ss a.steps s refl rewritten)
-    ∙ sym (deletion_append (length f) (uncited f ss) [] (laid drops a.steps ++ stepped s ∷ [])) in
-    let bytes : written_items form (placed f ts) ≡ written_items form (deletion (length f) (uncited f ss) []) ++ (written_items form (laid drops a.steps) ++ (written_item form (stepped s) ++ [])) =
-    ap (written_items form) items ∙ items_append form (deletion (length f) (uncited f ss) []) (laid drops a.steps ++ stepped s ∷ [])
-    ∙ ap (λ l. written_items form (deletion (length f) (uncited f ss) []) ++ l) (items_append form (laid drops a.steps) (stepped s ∷ [])) in
-    (ts, rewritten,
-      n ∙ ap (λ l. l ++ written_item form (stepped s)) a.bytes
-      ∙ regroup (written_items form (deletion (length f) (uncited f ss) [])) (written_items form (laid drops a.steps)) (written_item form (stepped s)) ∙ sym bytes)
-  where
-    regroup : (a b c : List ℕ) → (a ++ b) ++ c ≡ a ++ (b ++ (c ++ []))
-    regroup a b c = append_assoc a b c ∙ ap (λ l. a ++ (b ++ l)) (sym (append-nil c))
+    let first : List Item = deletion (length f) (uncited f ss) [] in
+    let same_drop : deletion s.id (get_or drops i []) [] ≡ deletion t.id (get_or drops (length ts) []) [] =
+    ap (λ m. deletion m (get_or drops i []) []) r.id ∙ ap (λ (m : ℕ). deletion t.id (get_or drops m []) []) (sym a.count) in
+    let more : first ++ laid drops (ts ++ t ∷ []) ≡ (first ++ laid drops ts) ++ stepped t ∷ deletion t.id (get_or drops (length ts) []) [] =
+    ap (λ l. first ++ l) (laid_push drops ts t (omega (arith, a.count))) ∙ sym (append_assoc first (laid drops ts) (stepped t ∷ deletion t.id (get_or drops (length ts) []) [])) in
+    append_assoc (written_items form (first ++ laid drops ts)) (written_item form (stepped t)) (written_items form (deletion s.id (get_or drops i []) []))
+    ∙ ap (λ l. written_items form (first ++ laid drops ts) ++ (written_item form (stepped t) ++ written_items form l)) same_drop
+    ∙ sym (ap (written_items form) more ∙ items_append form (first ++ laid drops ts) (stepped t ∷ deletion t.id (get_or drops (length ts) []) []))
+
+-- the bytes of the last step
+pub last_bytes : (form : Form) (f : List (List Literal)) (ss ts : List Step) (i : ℕ) (s : Step) → AreLaid ss i ts → i + 1 ≡ length ss → ((d : Step) → get_or ss i d ≡ s)
+    → IsStepRewritten s s → AreStepsRewritten ss (ts ++ s ∷ []) × (written_items form (items_so_far f ss ts) ++ written_item form (stepped s) ≡ written_items form (placed f (ts ++ s ∷ [])))
+last_bytes form f ss ts i s a long is same =
+    let drops : List (List ℕ) = drops_from (numbered_from 1 f) ss in
+    let pushed : AreStepsRewritten (take (i + 1) ss) (ts ++ s ∷ []) = (one_laid ss ts i s s a (omega arith) is same).rewritten in
+    let rewritten : AreStepsRewritten ss (ts ++ s ∷ []) = subst (λ l. AreStepsRewritten l (ts ++ s ∷ [])) (take_all (i + 1) ss (omega arith)) pushed in
+    let items : placed f (ts ++ s ∷ []) ≡ items_so_far f ss ts ++ stepped s ∷ [] =
+    ap (λ u. deletion (length f) u (placed_from (numbered_from 1 f) (ts ++ s ∷ []))) (sym (uncited_same f ss (ts ++ s ∷ []) rewritten))
+    ∙ ap (λ l. deletion (length f) (uncited f ss) l) (all_laid (numbered_from 1 f) (numbered_from 1 f) ss ts s refl rewritten)
+    ∙ sym (deletion_append (length f) (uncited f ss) [] (laid drops ts ++ stepped s ∷ []))
+    ∙ sym (append_assoc (deletion (length f) (uncited f ss) []) (laid drops ts) (stepped s ∷ [])) in (
+      rewritten,
+      ap (λ l. written_items form (items_so_far f ss ts) ++ l) (sym (append-nil (written_item form (stepped s))))
+          ∙ sym (ap (written_items form) items ∙ items_append form (items_so_far f ss ts) (stepped s ∷ [])),
+    )
 
 pub drops_count : (known : Numbered) (ss : List Step) → length (drops_from known ss) ≡ length ss
 drops_count known [] = refl

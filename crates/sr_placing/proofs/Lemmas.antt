@@ -1,14 +1,14 @@
 -- The lemma of a number, in a loaded proof.
-use Rattle.std.proofs.Common.{◌≡◌, ◌≢◌, ℕ, ◌+◌, ◌<◌, ◌≤◌, ◌==◌, Bool, true, false, cond, List, [], ◌∷◌, ◌++◌, Option, Some, None, refl, sym, ◌∙◌, ap, subst, arith, length}
+use Rattle.std.proofs.Common.{◌≡◌, ℕ, ◌+◌, ◌<◌, ◌≤◌, ◌==◌, false, List, [], ◌∷◌, Option, Some, None, refl, sym, ◌∙◌, ap, arith, length}
 use Rattle.std.proofs.lemmas.Bool.Decides.{nat_tests}
 use Rattle.sr_base.specs.Literal.{Literal}
 use Rattle.sr_model.specs.Substitution.{Witness, IsPivot}
-use Rattle.sr_model.specs.Chain.{Numbered, clause_of}
+use Rattle.sr_model.specs.Chain.{clause_of}
 use Rattle.sr_model.specs.Dsr.{Lemma}
 use Rattle.sr_model.specs.Judging.{numbered_from}
 use Rattle.sr_trimming.specs.Loading.{Done, joined, removed, passed, Standing, at_start, after_done, after_all}
-use Rattle.sr_trimming.specs.Reordered.{IsReordered, IsRewritten, put_first}
-use Rattle.sr_trimming.specs.From.{numbered_lemmas, all_loaded, Place, place_of, witness_of}
+use Rattle.sr_trimming.specs.Reordered.{IsRewritten, put_first}
+use Rattle.sr_trimming.specs.From.{numbered_lemmas, Place, place_of, witness_of}
 use Rattle.sr_trimming.proofs.Written.{absent_append}
 use Rattle.sr_trimming.proofs.PivotFirst.{pivot_put_first}
 use Rattle.sr_load.specs.Loaded.{LoadedState, all_lines, all_in, HasPivotAt, HasClauseAt}

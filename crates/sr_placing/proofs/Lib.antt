@@ -9,3 +9,5 @@ pub mod Smallness
 pub mod Laying
 pub mod Ready
 pub mod Coring
+pub mod Totals
+pub mod Sending

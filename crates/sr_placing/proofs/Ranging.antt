@@ -1,6 +1,6 @@
 -- Numbers in rising order.
-use Rattle.std.proofs.Common.{◌≡◌, ℕ, suc, zero, ◌+◌, ◌-◌, ◌<◌, ◌≤◌, ◌==◌, Bool, true, false, not, ◌&&◌, ◌||◌, cond, List, [], ◌∷◌, ◌++◌, refl, sym, ◌∙◌, ap, subst, arith, length, get_or, take, drop, add-one, append_assoc, append-nil}
-use Rattle.std.specs.Prelude.{filter, map}
+use Rattle.std.proofs.Common.{◌≡◌, ℕ, suc, zero, ◌+◌, ◌<◌, ◌≤◌, ◌==◌, Bool, true, false, ◌&&◌, cond, List, [], ◌∷◌, ◌++◌, refl, sym, ◌∙◌, ap, subst, arith, length, get_or, take, add-one, append_assoc, append-nil}
+use Rattle.std.specs.Prelude.{filter}
 use Rattle.std.proofs.lemmas.List.{take_more, length-take-le}
 use Rattle.std.proofs.lemmas.Bool.Decides.{nat_tests}
 use Rattle.sr_base.specs.Literal.{Literal}
@@ -8,7 +8,7 @@ use Rattle.sr_model.specs.Assignment.{holds_number}
 use Rattle.sr_model.specs.Chain.{Numbered}
 use Rattle.sr_model.specs.Judging.{numbered_from}
 use Rattle.sr_trimming.specs.Placing.{numbers}
-use Rattle.sr_trimming.proofs.Placed.{RiseTo, NumbersRise}
+use Rattle.sr_trimming.proofs.Placed.{NumbersRise}
 use Rattle.sr_table.proofs.Paging.{by_test}
 use Rattle.sr_placing.specs.Marks.{numbers_where}
 

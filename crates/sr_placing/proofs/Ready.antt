@@ -1,8 +1,7 @@
 -- What holds at each step of a backward pass when it is written.
-use Rattle.std.proofs.Common.{◌≡◌, ℕ, suc, zero, ◌+◌, ◌-◌, ◌<◌, ◌≤◌, List, [], ◌∷◌, Option, Some, None, refl, sym, ◌∙◌, ap, subst, arith, length, get_or, map}
+use Rattle.std.proofs.Common.{◌≡◌, ℕ, suc, zero, ◌+◌, ◌-◌, ◌<◌, ◌≤◌, List, [], ◌∷◌, Option, Some, None, refl, sym, ◌∙◌, ap, arith, length, get_or, map}
 use Rattle.std.specs.Prelude.{All}
 use Rattle.sr_base.specs.Literal.{Literal}
-use Rattle.sr_model.specs.Chain.{Numbered}
 use Rattle.sr_model.specs.Meeting.{Step}
 use Rattle.sr_model.specs.Judging.{numbered_from}
 use Rattle.sr_trimming.specs.Loading.{Done, at_start, after_all}

@@ -1,5 +1,5 @@
 -- The numbers of linked lean steps are at most that of the last one.
-use Rattle.std.proofs.Common.{◌≡◌, ℕ, suc, zero, ◌+◌, ◌-◌, ◌<◌, ◌≤◌, ◌==◌, Bool, true, false, not, ◌&&◌, ◌||◌, cond, List, [], ◌∷◌, ◌++◌, refl, sym, ◌∙◌, ap, subst, arith, length, get_or}
+use Rattle.std.proofs.Common.{◌≡◌, ℕ, suc, zero, ◌+◌, ◌<◌, ◌≤◌, ◌==◌, Bool, true, not, ◌&&◌, ◌||◌, List, [], ◌∷◌, sym, ◌∙◌, ap, subst, arith, length, get_or}
 use Rattle.std.specs.Prelude.{filter, map, All, Option, Some, None}
 use Rattle.std.proofs.lemmas.Bool.Decides.{nat_tests}
 use Rattle.std.proofs.lemmas.Grind.{get_or_default_zero}
@@ -17,13 +17,13 @@ use Rattle.sr_trimming.specs.Lean.{needs_group, AreLeanGroups, IsLeanWith}
 use Rattle.sr_trimming.specs.Trimmed.{LeanByNeed}
 use Rattle.sr_trimming.proofs.Placed.{in_numbers, known_after}
 use Rattle.sr_table.proofs.Paging.{by_test}
-use Rattle.sr_lsr.specs.Written.{IsSmall, IsSmallGroup}
-use Rattle.sr_steps.specs.Kept.{Kept, step_at, step_of}
+use Rattle.sr_lsr.specs.Written.{IsSmall}
+use Rattle.sr_steps.specs.Kept.{Kept, step_of}
 use Rattle.sr_placing.specs.Parts.{IsSmallKept}
 use Rattle.sr_placing.specs.Placing.{drops_from}
-use Rattle.sr_placing.proofs.Using.{holds_at, group_cites}
+use Rattle.sr_placing.proofs.Using.{holds_at}
 use Rattle.sr_placing.proofs.Knowing.{need_below, step_cites_lean}
-use Rattle.sr_placing.proofs.Ranging.{up_from, numbered_up, numbers_filter, holds_filter}
+use Rattle.sr_placing.proofs.Ranging.{up_from, numbered_up}
 use Rattle.sr_placing.proofs.Placings.{id_is, hints_are, last_id, linked_end}
 
 pub all_small : (xs : List ℕ) → ((n : ℕ) → holds_number n xs ≡ true → IsSmall n) → All IsSmall xs
@@ -48,7 +48,6 @@ step_group_lean live s None j d l h = let none : length s.groups ≡ 0 = ap leng
 step_group_lean live s (Some w) j d l h =
     in_kept (λ p. needs_group (compl s.clause) (substitution w) p.1) (get_or s.groups j d).0 live
     (group_of_lean live (compl s.clause) (substitution w) (filter (λ p. needs_group (compl s.clause) (substitution w) p.1) live) s.groups j d l.1 h)
-
 
 -- a step whose number is small
 one_small : (all : Numbered) (s : Step) (later : List Step) (k : Kept) → s.id ≡ k.id → s.prefix ≡ k.prefix → s.groups ≡ k.groups → IsLeanWith (need all s later) s s.witness → IsSmall k.id → IsSmallKept k

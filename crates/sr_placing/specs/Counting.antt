@@ -1,5 +1,5 @@
 -- How much a trimmed proof holds.
-use Rattle.std.specs.Prelude.{ℕ, ◌+◌, ◌-◌, ◌^◌, min, List, length, sum_by}
+use Rattle.std.specs.Prelude.{ℕ, ◌+◌, ◌-◌, ◌^◌, min, length, sum_by}
 use Rattle.sr_model.specs.Meeting.{Group}
 use Rattle.sr_steps.specs.Kept.{Kept}
 

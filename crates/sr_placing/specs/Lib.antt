@@ -3,3 +3,5 @@ pub mod Uses
 pub mod Placing
 pub mod Parts
 pub mod Counting
+pub mod Sinking
+pub mod SinkLaws

@@ -2,15 +2,21 @@
 //! last use, and the clauses of the formula that are cited.
 #![tactic(auto)]
 
+mod buffer;
+mod bytes;
 mod chains;
 mod core;
 mod counts;
+mod length;
 mod placing;
+mod sink;
+mod spelling;
 mod step;
 mod uses;
 mod write;
 
-pub use core::core_bytes;
+pub use buffer::Buffer;
+pub use core::{core_bytes, core_length, write_core};
 pub use counts::{Sizes, statistics};
 pub use placing::Placing;
-pub use write::lsr_bytes;
+pub use write::{lsr_bytes, lsr_length, write_lsr};

@@ -34,11 +34,7 @@ impl Model for Placing {
 
 impl Placing {
     /// Looks for the last use of each clause. The time is linear in the hints and in the number of the last step.
-    pub fn new<L: Loaded>(
-        alloc: Global,
-        loaded: &L,
-        steps: &StepTable,
-    ) -> Result<Placing, NoMemory>
+    pub fn new<L: Loaded>(alloc: Global, loaded: &L, steps: &StepTable) -> Result<Placing, NoMemory>
         requires linked { AreLinked (length (L.state loaded.now).formula.clauses) (steps_of (L.state loaded.now) steps.now) }
         requires known { CiteKnown (L.state loaded.now).formula.clauses (steps_of (L.state loaded.now) steps.now) }
         requires lean { LeanByNeed (all_in (L.state loaded.now)) (steps_of (L.state loaded.now) steps.now) }

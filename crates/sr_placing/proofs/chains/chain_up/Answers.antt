@@ -1,4 +1,4 @@
-use Rattle.std.proofs.Common.{◌≡◌, ℕ, ◌+◌, ◌-◌, ◌<◌, ◌≤◌, length, get_or, subst, sym, rules, arith}
+use Rattle.std.proofs.Common.{◌≡◌, ℕ, ◌+◌, ◌-◌, get_or, subst, arith}
 use Rattle.sr_placing.proofs.Chaining.{AreChainedFrom, none_chained, unmarked, marked}
 use Rattle.sr_placing.proofs.chains.chain_up.Goals as goal
 

@@ -1,4 +1,4 @@
-use Rattle.std.proofs.Common.{◌≡◌, ◌<◌, ℕ, arith, length, get_or}
+use Rattle.std.proofs.Common.{arith, get_or}
 use Rattle.sr_placing.proofs.Using.{holds_at, mark_more}
 use Rattle.sr_placing.proofs.uses.mark_all.Goals as goal
 

@@ -4,7 +4,6 @@ use Rattle.sr_model.specs.Meeting.{Group}
 use Rattle.sr_trimming.specs.Citing.{groups_cite}
 use Rattle.sr_steps.specs.Kept.{Kept}
 use Rattle.sr_steps.specs.Adding.{bare}
-use Rattle.sr_placing.specs.Uses.{kept_cites}
 use Rattle.sr_placing.proofs.Using.{groups_more, group_cites, mark_twice}
 use Rattle.sr_placing.proofs.uses.mark_step.Goals as goal
 

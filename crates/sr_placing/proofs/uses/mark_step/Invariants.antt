@@ -1,4 +1,4 @@
-use Rattle.std.proofs.Common.{◌≡◌, ℕ, ◌||◌, cond, take, get_or, [], false}
+use Rattle.std.proofs.Common.{◌≡◌, ℕ, ◌||◌, cond, take, get_or, false}
 use Rattle.sr_model.specs.Assignment.{holds_number}
 use Rattle.sr_trimming.specs.Citing.{groups_cite}
 use Rattle.sr_steps.specs.Adding.{bare}

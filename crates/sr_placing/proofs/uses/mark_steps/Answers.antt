@@ -1,6 +1,6 @@
-use Rattle.std.proofs.Common.{◌≡◌, ◌∙◌, ℕ, ◌+◌, ◌<◌, true, false, cond, take, ap, sym, arith, length, get_or}
+use Rattle.std.proofs.Common.{◌∙◌, ◌+◌, false, cond, ap, sym, arith, get_or}
 use Rattle.sr_steps.specs.Adding.{bare}
-use Rattle.sr_placing.specs.Uses.{kept_cites, last_use}
+use Rattle.sr_placing.specs.Uses.{kept_cites}
 use Rattle.sr_placing.proofs.Using.{some_at, use_more}
 use Rattle.sr_placing.proofs.uses.mark_steps.Goals as goal
 
