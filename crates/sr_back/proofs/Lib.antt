@@ -1,0 +1,5 @@
+pub mod Maps
+pub mod Standing
+pub mod Exact
+pub mod Queues
+pub mod Indexing

@@ -1,0 +1,4 @@
+pub mod Queued
+pub mod Citing
+pub mod Testing
+

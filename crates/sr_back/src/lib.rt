@@ -1,0 +1,7 @@
+//! The backward pass over a loaded proof: lines are taken back from the last one, and for each lemma that a later step cites
+//! a step by hints is found, by unit propagation or by its witness.
+#![tactic(auto)]
+
+mod cited;
+mod queue;
+mod testing;
