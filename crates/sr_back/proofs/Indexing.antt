@@ -89,7 +89,7 @@ left_at s ns (p ∷ ps) n c h f l = by_test (p.0 == n)
     (λ e. let is : p.0 ≡ n = grind (arith, nat_tests) in let g : Some p.1 ≡ Some c = rw e at f in let same : p.1 ≡ c = cc in subst (λ m. holds_number m ns ≡ true) is (h.0 (subst (λ d. is_left (reduction s d) ≡ true) (sym same) l)))
     (λ e. left_at s ns ps n c h.1 (rw e at f) l)
 
-cited_rises : (st : LoadedState) → AreRising 0 (cited_alive st)
+pub cited_rises : (st : LoadedState) → AreRising 0 (cited_alive st)
 cited_rises st = rise_again (λ p. holds_number p.0 st.cited) 0 (alive_in st) (alive_rises st.formula.clauses st.standing)
 
 listed : (st : LoadedState) (index : CitedClauses) → IsIndexed st index → index.lists.built ≡ true → AreListed index.lists (cited_alive st)
@@ -270,3 +270,33 @@ put_same table found old i n l e z f m h t =
 
 pub led_none : (table : Paged) (queue : List ℕ) → queue ≡ [] → (n : ℕ) → holds_number n queue ≡ true → not (entry table n == 0) ≡ true
 led_none table queue e n h = absurd (let g : false ≡ true = ap (holds_number n) (sym e) ∙ h in cc)
+
+-- what isn't cited is put into a queue
+pub new_more : (ids first old new cited : List ℕ) (i : ℕ) → i < length ids → holds_number (get_or ids i 0) cited ≡ false → Puts old new (get_or ids i 0)
+    → ((n : ℕ) → holds_number n old ≡ (holds_number n first || (holds_number n (take i ids) && not (holds_number n cited))))
+    → (n : ℕ) → holds_number n new ≡ (holds_number n first || (holds_number n (take (i + 1) ids) && not (holds_number n cited)))
+new_more ids first old new cited i l out p f n =
+    let parts : holds_number n (take (i + 1) ids) ≡ (holds_number n (take i ids) || holds_number n (get_or ids i 0 ∷ [])) = ap (holds_number n) (take_more ids i 0 l) ∙ holds_append n (take i ids) (get_or ids i 0 ∷ []) in
+    by_test (get_or ids i 0 == n)
+    (λ y.
+    let is : get_or ids i 0 ≡ n = grind (arith, nat_tests) in
+    let none : holds_number n cited ≡ false = subst (λ m. holds_number m cited ≡ false) is out in
+    let g : holds_number n new ≡ ((get_or ids i 0 == n) || holds_number n old) = p n in
+    grind (arith, nat_tests))
+    (λ y.
+    let g : holds_number n new ≡ ((get_or ids i 0 == n) || holds_number n old) = p n in
+    let was : holds_number n old ≡ (holds_number n first || (holds_number n (take i ids) && not (holds_number n cited))) = f n in
+    grind (arith, nat_tests))
+
+pub new_same : (ids first old cited : List ℕ) (i : ℕ) → i < length ids → holds_number (get_or ids i 0) cited ≡ true
+    → ((n : ℕ) → holds_number n old ≡ (holds_number n first || (holds_number n (take i ids) && not (holds_number n cited))))
+    → (n : ℕ) → holds_number n old ≡ (holds_number n first || (holds_number n (take (i + 1) ids) && not (holds_number n cited)))
+new_same ids first old cited i l there f n =
+    let parts : holds_number n (take (i + 1) ids) ≡ (holds_number n (take i ids) || holds_number n (get_or ids i 0 ∷ [])) = ap (holds_number n) (take_more ids i 0 l) ∙ holds_append n (take i ids) (get_or ids i 0 ∷ []) in
+    let was : holds_number n old ≡ (holds_number n first || (holds_number n (take i ids) && not (holds_number n cited))) = f n in
+    by_test (get_or ids i 0 == n)
+    (λ y.
+    let is : get_or ids i 0 ≡ n = grind (arith, nat_tests) in
+    let also : holds_number n cited ≡ true = subst (λ m. holds_number m cited ≡ true) is there in
+    grind (arith, nat_tests))
+    (λ y. grind (arith, nat_tests))

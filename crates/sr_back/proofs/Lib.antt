@@ -3,3 +3,5 @@ pub mod Standing
 pub mod Exact
 pub mod Queues
 pub mod Indexing
+pub mod Orders
+pub mod Trials

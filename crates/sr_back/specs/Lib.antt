@@ -1,4 +1,5 @@
 pub mod Queued
 pub mod Citing
 pub mod Testing
-
+pub mod Tries
+pub mod Pass

@@ -3,5 +3,8 @@
 #![tactic(auto)]
 
 mod cited;
+mod groups;
+mod passing;
 mod queue;
 mod testing;
+pub use passing::Back;
