@@ -5,3 +5,5 @@ pub mod Queues
 pub mod Indexing
 pub mod Orders
 pub mod Trials
+pub mod Alive
+pub mod Trying
