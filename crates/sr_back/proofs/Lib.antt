@@ -7,3 +7,4 @@ pub mod Orders
 pub mod Trials
 pub mod Alive
 pub mod Trying
+pub mod Turns

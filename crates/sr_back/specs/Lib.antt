@@ -3,3 +3,4 @@ pub mod Citing
 pub mod Testing
 pub mod Tries
 pub mod Pass
+pub mod Turning

@@ -25,6 +25,16 @@ pub struct Scratch {
     pub chain: IdList,
 }
 
+impl Scratch {
+    /// Empty lists.
+    pub fn new(alloc: Global) -> Scratch {
+        Scratch {
+            lits: LitList::new(alloc),
+            chain: IdList::new(alloc),
+        }
+    }
+}
+
 /// Puts the numbers that aren't cited into a queue.
 fn put_new<L: Loaded>(loaded: &L, ids: &[ClauseId], queue: &mut Queue) -> Result<(), NoMemory>
     ensures { OnOk result ((n : ℕ) → holds_number n queue.new ≡ (holds_number n queue.old || (holds_number n ids.now && not (holds_number n (L.state loaded.now).cited)))) }
@@ -55,6 +65,7 @@ pub fn find_groups<L: Loaded>(
     requires tested { (p : Place) × IsTested (L.state loaded.old) lemma steps.old p }
     ensures index { OnOk result (IsIndexed (L.state loaded.new) index.new) }
     ensures same { KeepsProof (L.state loaded.old) (L.state loaded.new) }
+    ensures lines { (L.state loaded.new).standing ≡ (L.state loaded.old).standing }
     ensures groups { IfOk result (λ r. (p : Place) → place_in (L.state loaded.old) lemma ≡ Some p
         → GroupsEnd (L.state loaded.old) (L.state loaded.new) (steps_in (L.state loaded.old) steps.old) p lemma steps.old steps.new r) }
 {

@@ -7,4 +7,4 @@ mod groups;
 mod passing;
 mod queue;
 mod testing;
-pub use passing::Back;
+pub use passing::{Back, backward};
