@@ -8,3 +8,5 @@ pub mod Trials
 pub mod Alive
 pub mod Trying
 pub mod Turns
+pub mod Lines
+pub mod Keeping

@@ -71,7 +71,7 @@ fits_all st base (joined l ∷ ds) us f =
 fits_all st base (removed k ∷ ds) us f = fits_all (after_done st (removed k)) base ds us (fits_removed st base k f)
 fits_all st base (passed ∷ ds) us f = fits_all st base ds us f
 
-numbered_low : (k n : ℕ) (f : List (List Literal)) (c : List Literal) → clause_of (numbered_from k f) n ≡ Some c → n < k + length f
+pub numbered_low : (k n : ℕ) (f : List (List Literal)) (c : List Literal) → clause_of (numbered_from k f) n ≡ Some c → n < k + length f
 numbered_low k n [] c h = absurd cc
 numbered_low k n (d ∷ ds) c h = by_test (k == n) (λ e. grind (arith, nat_tests)) (λ e. let g : n < k + 1 + length ds = numbered_low (k + 1) n ds c (rw e at h) in omega arith)
 
