@@ -1,6 +1,6 @@
 -- The lists of cited clauses by literal, over the states of a loaded proof.
-use Rattle.std.proofs.Common.{◌≡◌, ◌⊎◌, inl, inr, ℕ, zero, suc, ◌<◌, ◌≤◌, ◌+◌, ◌==◌, Bool, true, false, cond, not, ◌||◌, ◌&&◌, List, [], ◌∷◌, ◌++◌, Option, Some, None, refl, sym, ◌∙◌, ap, subst, arith, length, get_or, take, append_assoc}
-use Rattle.std.specs.Prelude.{filter, nat_lt, is_some}
+use Rattle.std.proofs.Common.{◌≡◌, ℕ, zero, suc, ◌<◌, ◌≤◌, ◌+◌, ◌==◌, true, false, cond, not, ◌||◌, ◌&&◌, List, [], ◌∷◌, ◌++◌, Option, Some, None, refl, sym, ◌∙◌, ap, subst, arith, length, get_or, take, append_assoc}
+use Rattle.std.specs.Prelude.{nat_lt, is_some}
 use Rattle.std.proofs.lemmas.Bool.Decides.{nat_tests}
 use Rattle.sr_base.specs.Literal.{Literal, same, has}
 use Rattle.sr_base.proofs.Literals.{same_tells}
@@ -9,8 +9,8 @@ use Rattle.sr_model.specs.Substitution.{Witness, Substitution, substitution, red
 use Rattle.sr_model.specs.Chain.{Numbered, clause_of}
 use Rattle.sr_model.proofs.Soundness.{by_test}
 use Rattle.sr_model.proofs.Moved.{holds_append}
-use Rattle.sr_table.specs.Pages.{Paged, entry, Sets}
-use Rattle.sr_occurs.specs.Occurring.{Occurring, under, IsUnder, AreUnder, AreListed, IsTableFor, KeepsFor, KeepsNumbers}
+use Rattle.sr_table.specs.Pages.{Paged, entry}
+use Rattle.sr_occurs.specs.Occurring.{under, IsUnder, AreUnder, AreListed, IsTableFor, KeepsFor}
 use Rattle.sr_occurs.specs.Candidates.{is_left, HoldsLeft, GathersLeft}
 use Rattle.sr_occurs.proofs.Entering.{under_more}
 use Rattle.sr_trimming.specs.Reordered.{IsReordered}
@@ -24,7 +24,7 @@ use Rattle.std.proofs.lemmas.List.{take_more}
 use Rattle.sr_back.specs.Queued.{Puts}
 use Rattle.sr_back.specs.declared.cited.CitedClauses.{CitedClauses}
 use Rattle.sr_back.specs.Citing.{with_cited, CitesAll, is_standing, CitedAreAlive, IsIndexed, KeepsIndex, Entered, Dropped, Finds}
-use Rattle.sr_back.proofs.Maps.{Within, clause_picked, picked, picked_test, found_number, number_found, found_above}
+use Rattle.sr_back.proofs.Maps.{Within, picked, picked_test, found_number, number_found, found_above}
 use Rattle.sr_back.proofs.Standing.{alive_fits, all_rise, after_append, next_grows, next_kept, alive_rises}
 
 -- the alive clauses are of all clauses, and below the next number
@@ -118,8 +118,7 @@ hint_there (k ∷ ks) (suc i) h = grind (arith, hint_there ks i (omega arith))
 pub still_indexed : (st : LoadedState) (old new : CitedClauses) → CitedAreAlive st → IsIndexed st old → old.lists.built ≡ true → new.table ≡ old.table → KeepsFor old.table old.lists new.lists
     → IsIndexed st new × (new.lists.built ≡ true)
 still_indexed st old new a i b t k =
-    let l : AreListed new.lists (cited_alive st) = k (cited_alive st) (table_for st old a i) (listed st old i b) in
-    (
+    let l : AreListed new.lists (cited_alive st) = k (cited_alive st) (table_for st old a i) (listed st old i b) in (
       record {
         told = λ n. ap (λ p. not (entry p n == 0)) t ∙ i.told n;
         under = λ n c s f. under_at (under new.lists) (cited_alive st) n c l.under (standing_found st n c a s f);
@@ -142,10 +141,10 @@ cite_indexed st new old index id a e en k b =
     let i : IsIndexed st old = k built in
     let low : id < (standing_in st).next = alive_low st id a in
     let told : (n : ℕ) → not (entry index.table n == 0) ≡ is_standing (citing st id) n = λ n.
-        let s : entry index.table n ≡ cond (id == n) 1 (entry old.table n) = en.told built n in
-        by_test (id == n)
-        (λ y. let is : id ≡ n = grind (arith, nat_tests) in let one : entry index.table n ≡ 1 = rw y at s in grind (arith, nat_tests, holds_append n st.cited (id ∷ [])))
-        (λ y. let same : entry index.table n ≡ entry old.table n = rw y at s in let was : not (entry old.table n == 0) ≡ is_standing st n = i.told n in grind (arith, nat_tests, holds_append n st.cited (id ∷ []))) in
+    let s : entry index.table n ≡ cond (id == n) 1 (entry old.table n) = en.told built n in
+    by_test (id == n)
+    (λ y. let is : id ≡ n = grind (arith, nat_tests) in let one : entry index.table n ≡ 1 = rw y at s in grind (arith, nat_tests, holds_append n st.cited (id ∷ [])))
+    (λ y. let same : entry index.table n ≡ entry old.table n = rw y at s in let was : not (entry old.table n == 0) ≡ is_standing st n = i.told n in grind (arith, nat_tests, holds_append n st.cited (id ∷ []))) in
     let all : all_in new ≡ all_in st = ap all_in e in
     let r : IsIndexed (citing st id) index = record {
       told = told;
@@ -182,8 +181,8 @@ pub record IndexedBelow (st : LoadedState) (index : CitedClauses) (k : ℕ) : Ty
 pub below_first : (st : LoadedState) (index : CitedClauses) (k : ℕ) → CitedAreAlive st → k ≡ 1 → index.lists.built ≡ true → ((n : ℕ) → entry index.table n ≡ 0) → IndexedBelow st index k
 below_first st index k a e b z =
     let none : (n : ℕ) → (is_standing st n && nat_lt n k) ≡ false = λ n. by_test (is_standing st n && nat_lt n k)
-        (λ y. let s : is_standing st n ≡ true = grind arith in let up : 0 < n = alive_positive st n (a n s) in absurd (grind (arith, nat_tests)))
-        (λ y. y) in
+    (λ y. let s : is_standing st n ≡ true = grind arith in let up : 0 < n = alive_positive st n (a n s) in absurd (grind (arith, nat_tests)))
+    (λ y. y) in
     record {
       built = b;
       told = λ n. ap (λ m. not (m == 0)) (z n) ∙ sym (none n);
@@ -206,8 +205,8 @@ below_more st old index k m i h low en e = record {
 pub below_same : (st : LoadedState) (old : CitedClauses) (k m : ℕ) → IndexedBelow st old k → holds_number k st.cited ≡ false → m ≡ k + 1 → IndexedBelow st old m
 below_same st old k m i h e =
     let same : (n : ℕ) → (is_standing st n && nat_lt n m) ≡ (is_standing st n && nat_lt n k) = λ n. by_test (k == n)
-        (λ y. let is : k ≡ n = grind (arith, nat_tests) in let out : holds_number n st.cited ≡ false = subst (λ j. holds_number j st.cited ≡ false) is h in grind (arith, nat_tests))
-        (λ y. grind (arith, nat_tests)) in
+    (λ y. let is : k ≡ n = grind (arith, nat_tests) in let out : holds_number n st.cited ≡ false = subst (λ j. holds_number j st.cited ≡ false) is h in grind (arith, nat_tests))
+    (λ y. grind (arith, nat_tests)) in
     record { built = i.built; told = λ n. i.told n ∙ sym (same n); under = λ n c s f. i.under n c (sym (same n) ∙ s) f }
 
 pub below_all : (st : LoadedState) (index : CitedClauses) (k : ℕ) → IndexedBelow st index k → k ≡ (standing_in st).next → IsIndexed st index

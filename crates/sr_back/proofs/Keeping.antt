@@ -1,43 +1,29 @@
 -- The step of a lemma that a later step cites.
-use Rattle.std.proofs.Common.{◌≡◌, ◌⊎◌, inl, inr, ℕ, ◌<◌, ◌≤◌, ◌+◌, ◌==◌, Bool, true, false, cond, not, ◌||◌, ◌&&◌, List, [], ◌∷◌, ◌++◌, Option, Some, None, refl, sym, ◌∙◌, ap, subst, arith, length, append-nil, append_assoc}
-use Rattle.std.specs.Prelude.{filter, map, nat_le, nat_lt, All}
-use Rattle.std.proofs.lemmas.Bool.Decides.{nat_tests}
+use Rattle.std.proofs.Common.{◌≡◌, inl, ℕ, true, false, List, [], ◌∷◌, ◌++◌, Some, None, refl, sym, ◌∙◌, ap, subst, arith}
+use Rattle.std.specs.Prelude.{All}
 use Rattle.sr_base.specs.Literal.{Literal, NoRepeats, SameSet, compl}
 use Rattle.sr_model.specs.Assignment.{holds_number}
-use Rattle.sr_model.specs.Refutation.{is_empty, Refutes}
+use Rattle.sr_model.specs.Refutation.{Refutes}
 use Rattle.sr_model.specs.Redundancy.{Rup}
-use Rattle.sr_model.specs.Substitution.{Substitution, Witness, substitution}
-use Rattle.sr_model.specs.Chain.{Numbered, clauses, clause_of}
-use Rattle.sr_model.specs.Meeting.{Group, Step}
-use Rattle.sr_model.specs.Dsr.{Lemma}
-use Rattle.sr_model.proofs.Soundness.{by_test}
+use Rattle.sr_model.specs.Chain.{clauses}
+use Rattle.sr_model.specs.Meeting.{Step}
 use Rattle.sr_model.proofs.Chains.{closed_refutes}
 use Rattle.sr_steps.specs.Kept.{Kept, step_at, step_of}
-use Rattle.sr_steps.specs.Adding.{AreOfDistinct}
-use Rattle.sr_trimming.specs.Reordered.{IsReordered, IsRewritten, SameFirst}
-use Rattle.sr_trimming.specs.Citing.{groups_cite, cites, is_cited, cited_of, AreRising}
-use Rattle.sr_trimming.specs.Placing.{numbers}
-use Rattle.sr_trimming.specs.Lean.{is_lean, group_start, needs_group, AreLeanGroups, IsLeanWith, IsLean}
-use Rattle.sr_trimming.specs.Loading.{at_start}
-use Rattle.sr_trimming.specs.From.{Place, CitesAlive, witness_of, IsStepOf}
-use Rattle.sr_trimming.specs.CoreFirst.{cited_so_far, ready, first_of, AreOf, IsCoreFirst, AreInOrder, put_in, rising, StepIsCoreFirst}
-use Rattle.sr_trimming.specs.Evidence.{HaveLeanChains, FailsAt, assumed, moves}
-use Rattle.sr_trimming.proofs.Placed.{rise_again}
+use Rattle.sr_trimming.specs.Reordered.{IsRewritten, SameFirst}
+use Rattle.sr_trimming.specs.Citing.{cites, is_cited}
+use Rattle.sr_trimming.specs.Lean.{is_lean}
+use Rattle.sr_trimming.specs.From.{Place, CitesAlive}
+use Rattle.sr_trimming.specs.CoreFirst.{IsCoreFirst}
+use Rattle.sr_trimming.specs.Evidence.{assumed}
 use Rattle.sr_trimming.proofs.Reordered.{same_compl, same_sym}
 use Rattle.sr_trimming.proofs.Leanness.{lean_closes}
-use Rattle.sr_load.specs.Loaded.{LoadedState, all_lines, all_in, alive_in, cited_alive, standing_in, IsChain, HasClauseAt}
-use Rattle.sr_back.specs.Citing.{with_cited, CitesAll, is_standing, CitedAreAlive}
-use Rattle.sr_back.specs.Testing.{place_in, steps_in, assuming_all, with_assumed, IsChainFrom, IsTested}
-use Rattle.sr_back.specs.Tries.{AreFound, has_group, HasTried, IsQueued, IsStuckAt, GroupsEnd}
-use Rattle.sr_back.specs.Turning.{tail_in, IsSound, IsKept, IsTurn, IsOpen, LemmaEnd}
-use Rattle.sr_back.proofs.Maps.{Within, picked, picked_test, found_number, number_found}
-use Rattle.sr_back.proofs.Standing.{alive_rises}
-use Rattle.sr_back.proofs.Exact.{AreApart, exact_groups}
+use Rattle.sr_load.specs.Loaded.{LoadedState, all_lines, all_in, alive_in, cited_alive, IsChain, HasClauseAt}
+use Rattle.sr_back.specs.Citing.{CitesAll}
+use Rattle.sr_back.specs.Testing.{place_in, steps_in, assuming_all, with_assumed, IsChainFrom}
+use Rattle.sr_back.specs.Turning.{IsKept, IsTurn, IsOpen}
 use Rattle.sr_back.proofs.Orders.{no_repeats_at, refutes_sees, chain_sees}
-use Rattle.sr_back.proofs.Indexing.{alive_within, alive_low, alive_positive}
 use Rattle.sr_back.proofs.Alive.{lean_live}
-use Rattle.sr_back.proofs.Trying.{moves_is}
-use Rattle.sr_back.proofs.Turns.{lean_cited, filter_twice, later_is, IsStepAt, kept_more}
+use Rattle.sr_back.proofs.Turns.{lean_cited, later_is, IsStepAt, kept_more}
 use Rattle.sr_back.proofs.Lines.{place_clause}
 
 -- a clause is as it was read
@@ -45,7 +31,7 @@ same_first : (c : List Literal) → SameFirst c c
 same_first [] = tt
 same_first (l ∷ ls) = refl
 
-as_read : (st : LoadedState) (n : ℕ) (p : Place) → All NoRepeats (clauses (all_in st)) → place_in st n ≡ Some p → IsRewritten p.stated.clause p.stated.clause
+pub as_read : (st : LoadedState) (n : ℕ) (p : Place) → All NoRepeats (clauses (all_in st)) → place_in st n ≡ Some p → IsRewritten p.stated.clause p.stated.clause
 as_read st n p a e =
     let once : NoRepeats p.stated.clause = no_repeats_at (all_in st) n p.stated.clause a (place_clause st n p e) in
     record { pivot = same_first p.stated.clause; reordered = record { same_literals = λ l. refl; none_twice = once; none_twice_in_other = once } }
@@ -61,7 +47,7 @@ propagated id c hints = record { id = id; clause = c; witness = None; prefix = h
 abbrev pub plain_kept : ℕ → List ℕ → Kept
 plain_kept id hints = record { id = id; by_witness = false; prefix = hints; groups = [] }
 
-step_is : (st : LoadedState) (k : Kept) (p : Place) → place_in st k.id ≡ Some p → step_of st.formula.clauses (all_lines st) k ≡ step_at (Some p) k
+pub step_is : (st : LoadedState) (k : Kept) (p : Place) → place_in st k.id ≡ Some p → step_of st.formula.clauses (all_lines st) k ≡ step_at (Some p) k
 step_is st k p e = ap (λ o. step_at o k) e
 
 propagated_at : (st : LoadedState) (id : ℕ) (hints : List ℕ) (steps : List Step) → (t : IsTurn st id steps) → IsChainFrom st (assumed t.place) hints → IsStepAt st id t.place (propagated id t.place.stated.clause hints) steps

@@ -10,3 +10,4 @@ pub mod Trying
 pub mod Turns
 pub mod Lines
 pub mod Keeping
+pub mod Witnessed

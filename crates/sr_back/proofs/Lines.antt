@@ -1,6 +1,6 @@
 -- Lines that are taken back.
-use Rattle.std.proofs.Common.{◌≡◌, ◌⊎◌, inl, inr, ℕ, ◌<◌, ◌≤◌, ◌+◌, ◌==◌, Bool, true, false, cond, not, ◌||◌, ◌&&◌, List, [], ◌∷◌, ◌++◌, Option, Some, None, refl, sym, ◌∙◌, ap, subst, arith, length, append-nil, append_assoc}
-use Rattle.std.specs.Prelude.{filter, map, nat_le, nat_lt, All}
+use Rattle.std.proofs.Common.{◌≡◌, inl, inr, ℕ, ◌<◌, ◌≤◌, ◌+◌, ◌==◌, true, false, not, ◌||◌, ◌&&◌, List, [], ◌∷◌, ◌++◌, Option, Some, None, refl, sym, ◌∙◌, ap, subst, arith, length, append-nil}
+use Rattle.std.specs.Prelude.{nat_lt, All}
 use Rattle.std.proofs.lemmas.Bool.Decides.{nat_tests}
 use Rattle.sr_base.specs.Literal.{Literal, NoRepeats}
 use Rattle.sr_model.specs.Assignment.{holds_number}
@@ -10,7 +10,6 @@ use Rattle.sr_model.specs.Meeting.{Step}
 use Rattle.sr_model.specs.Judging.{numbered_from}
 use Rattle.sr_model.specs.Dsr.{Lemma}
 use Rattle.sr_model.proofs.Soundness.{by_test}
-use Rattle.sr_model.proofs.Moved.{holds_append}
 use Rattle.sr_steps.specs.Kept.{Kept, step_at, step_of}
 use Rattle.sr_trimming.specs.Citing.{cites, is_cited, cited_of, need, numbered_steps, all_of}
 use Rattle.sr_trimming.specs.Placing.{numbers}
@@ -18,16 +17,15 @@ use Rattle.sr_trimming.specs.Lean.{is_lean}
 use Rattle.sr_trimming.specs.Loading.{Done, joined, removed, passed, Standing, at_start, after_done, after_all, at_conflict, at_empty_lemma, InConflict, is_empty_lemma, StopsAfter}
 use Rattle.sr_trimming.specs.From.{numbered_lemmas, all_loaded, Place, place_of}
 use Rattle.sr_trimming.specs.Written.{CiteKnown}
-use Rattle.sr_trimming.specs.CoreFirst.{AreOf, IsCoreFirst}
+use Rattle.sr_trimming.specs.CoreFirst.{IsCoreFirst}
 use Rattle.sr_trimming.proofs.Written.{absent_append}
-use Rattle.sr_load.specs.Loaded.{LoadedState, all_lines, all_in, alive_in, cited_alive, standing_in, next_of, IsLoaded, joins_none, TookBack, TookAll, IsChain, Tests}
+use Rattle.sr_load.specs.Loaded.{LoadedState, all_lines, all_in, alive_in, cited_alive, standing_in, next_of, IsLoaded, TookBack, TookAll, IsChain, Tests}
 use Rattle.sr_back.specs.Citing.{with_cited, CitesAll, is_standing, CitedAreAlive}
 use Rattle.sr_back.specs.Testing.{place_in, steps_in}
 use Rattle.sr_back.specs.Pass.{steps_of, IsWholePass, KeepsProof}
-use Rattle.sr_back.specs.Turning.{IsTail, tail_in, AreKnownFrom, IsSound, IsKept, IsTurn}
-use Rattle.sr_back.proofs.Maps.{found_number, number_found}
-use Rattle.sr_back.proofs.Standing.{alive_fits, numbered_low, after_append, next_grows, next_kept, place_found, alive_before, alive_before_lemma}
-use Rattle.sr_back.proofs.Indexing.{alive_within, alive_low, took_lines, took_next, took_standing}
+use Rattle.sr_back.specs.Turning.{IsTail, tail_in, IsSound, IsKept, IsTurn}
+use Rattle.sr_back.proofs.Standing.{numbered_low, after_append, next_grows, next_kept, place_found, alive_before, alive_before_lemma}
+use Rattle.sr_back.proofs.Indexing.{alive_low, took_lines, took_next, took_standing}
 use Rattle.sr_back.proofs.Alive.{lean_live}
 use Rattle.sr_back.proofs.Turns.{need_is, lean_cited, later_is, link_lower}
 
@@ -138,8 +136,8 @@ turn_back old new id steps k b c =
       alive = took_cited old new id b k.alive;
       known = λ n h. elim (k.known n h) [
         | inl low ↦ inl (by_test (n == id)
-          (λ y. let is : n ≡ id = grind (arith, nat_tests) in let also : is_cited id steps ≡ true = subst (λ m. is_cited m steps ≡ true) is h in let none : is_cited id steps ≡ false = sym (cites id) ∙ c in absurd cc)
-          (λ y. let other : n < id = grind (arith, nat_tests) in omega (arith, b.number)))
+            (λ y. let is : n ≡ id = grind (arith, nat_tests) in let also : is_cited id steps ≡ true = subst (λ m. is_cited m steps ≡ true) is h in let none : is_cited id steps ≡ false = sym (cites id) ∙ c in absurd cc)
+            (λ y. let other : n < id = grind (arith, nat_tests) in omega (arith, b.number)))
         | inr there ↦ inr (subst (λ x. holds_number n (numbers (all_of x.clauses steps)) ≡ true) (sym (same_formula old new id b)) there)
       ];
     }
@@ -191,10 +189,10 @@ whole_pass orig st new kept l p k b =
     let t : tail_in st (length st.formula.clauses) (steps_in st kept) = k.passed (length st.formula.clauses) next in
     let known : CiteKnown st.formula.clauses (steps_in st kept) = λ n h. elim (k.known n h) [
       | inl low ↦
-        let cited : holds_number n st.cited ≡ true = k.cites n ∙ h in
-        let alive : holds_number n (numbers (alive_in st)) ≡ true = k.alive n (let y : nat_lt n (standing_in st).next ≡ true = grind (arith, nat_tests) in grind arith) in
-        let first : holds_number n (numbers (numbered_from 1 st.formula.clauses)) ≡ true = alive_before n (at_start st.formula.clauses) st.standing b.no_lemma alive in
-        among (numbered_from 1 st.formula.clauses) (numbered_steps (steps_in st kept)) n first
+          let cited : holds_number n st.cited ≡ true = k.cites n ∙ h in
+          let alive : holds_number n (numbers (alive_in st)) ≡ true = k.alive n (let y : nat_lt n (standing_in st).next ≡ true = grind (arith, nat_tests) in grind arith) in
+          let first : holds_number n (numbers (numbered_from 1 st.formula.clauses)) ≡ true = alive_before n (at_start st.formula.clauses) st.standing b.no_lemma alive in
+          among (numbered_from 1 st.formula.clauses) (numbered_steps (steps_in st kept)) n first
       | inr there ↦ there
     ] in
     let whole : IsWholePass st.formula.clauses (all_lines st) kept = record { linked = t.linked; from = t.from; known = known; lean = t.lean; core_first = t.core_first } in
@@ -249,3 +247,6 @@ first_kept st new end hints kept l e c cites is =
     } in
     let steps : steps_in (with_cited st new.cited) kept ≡ s ∷ [] = ap (steps_in st) is ∙ first_is st end hints e in
     subst (λ x. IsKept x (steps_in x kept)) (sym cites.same) (subst (IsKept (with_cited st new.cited)) (sym steps) k)
+
+pub took_steps : (old new : LoadedState) (id : ℕ) (kept : List Kept) → TookBack old new id → steps_in new kept ≡ steps_in old kept
+took_steps old new id kept b = ap (λ x. steps_of x.clauses (all_lines new) kept) (same_formula old new id b) ∙ ap (λ ds. steps_of old.formula.clauses ds kept) (took_lines old new id b)

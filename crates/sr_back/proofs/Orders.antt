@@ -1,5 +1,5 @@
 -- The order of the assumed literals, and of the literals of a clause, plays no part.
-use Rattle.std.proofs.Common.{◌≡◌, ℕ, suc, ◌<◌, ◌==◌, true, false, List, [], ◌∷◌, Some, None, refl, sym, ◌∙◌, ap, subst, arith}
+use Rattle.std.proofs.Common.{◌≡◌, ℕ, ◌==◌, true, false, List, [], ◌∷◌, Some, refl, sym, ◌∙◌, subst, arith}
 use Rattle.std.specs.Prelude.{All}
 use Rattle.std.proofs.lemmas.Bool.Decides.{nat_tests}
 use Rattle.sr_base.specs.Literal.{Literal, NoRepeats, SameSet}
@@ -7,10 +7,8 @@ use Rattle.sr_model.specs.Assignment.{holds_number}
 use Rattle.sr_model.specs.Refutation.{Refutes}
 use Rattle.sr_model.specs.Chain.{Numbered, clauses, clause_of}
 use Rattle.sr_model.proofs.Soundness.{by_test}
-use Rattle.sr_trimming.specs.Reordered.{IsReordered, AreReordered, AreReorderedClauses}
+use Rattle.sr_trimming.specs.Reordered.{AreReordered}
 use Rattle.sr_trimming.specs.Citing.{AreRising}
-use Rattle.sr_trimming.specs.Lean.{is_lean}
-use Rattle.sr_trimming.specs.CoreFirst.{IsCoreFirst}
 use Rattle.sr_trimming.proofs.Reordered.{same_sym}
 use Rattle.sr_trimming.proofs.Rewritten.{refutes_same}
 use Rattle.sr_trimming.proofs.ProofsRewritten.{apart_first, apart_rest, lean_same}

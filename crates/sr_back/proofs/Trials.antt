@@ -1,16 +1,16 @@
 -- What one clause tells of a lemma that is tested with its witness.
-use Rattle.std.proofs.Common.{◌≡◌, ◌⊎◌, inl, inr, ℕ, true, false, not, ◌&&◌, Bool, List, [], ◌∷◌, ◌++◌, Option, Some, None, refl, sym, ◌∙◌, ap, subst, arith, take, length, ◌==◌}
+use Rattle.std.proofs.Common.{◌≡◌, ◌⊎◌, inl, inr, ℕ, true, false, not, List, [], ◌∷◌, ◌++◌, Option, Some, None, refl, sym, ◌∙◌, ap, subst, arith, length, ◌==◌}
 use Rattle.std.specs.Prelude.{All}
 use Rattle.std.proofs.lemmas.Bool.Decides.{nat_tests}
 use Rattle.sr_base.specs.Literal.{Literal, NoRepeats, SameSet, compl}
 use Rattle.sr_model.specs.Refutation.{Refutes}
-use Rattle.sr_model.specs.Substitution.{Substitution, has_pair, Reduction, untouched, satisfied, left, reduction}
-use Rattle.sr_model.specs.Chain.{clauses, closes, adds, misleads, hint}
+use Rattle.sr_model.specs.Substitution.{Substitution, has_pair, untouched, satisfied, left, reduction}
+use Rattle.sr_model.specs.Chain.{clauses}
 use Rattle.sr_model.specs.Meeting.{needs_hints}
 use Rattle.sr_model.proofs.Soundness.{by_test}
 use Rattle.sr_model.proofs.Chains.{pair_refutes}
 use Rattle.sr_trimming.specs.Reordered.{IsReordered}
-use Rattle.sr_trimming.specs.Lean.{is_lean, group_start, needs_group, left_set}
+use Rattle.sr_trimming.specs.Lean.{group_start, needs_group, left_set}
 use Rattle.sr_trimming.proofs.Reordered.{reduction_same, same_sym}
 use Rattle.sr_trimming.proofs.ProofsRewritten.{group_start_same}
 use Rattle.sr_trimming.proofs.Rewritten.{needs_same}
@@ -25,7 +25,7 @@ use Rattle.sr_wit.specs.declared.reduce.Reduced.{Reduced}
 use Rattle.sr_wit.specs.declared.reduce.Reduced.TheVariants.{Untouched, Satisfied, Left}
 use Rattle.sr_trimming.specs.From.{Place, witness_of}
 use Rattle.sr_back.specs.Testing.{place_in, HasWitness, IsWitnessOf}
-use Rattle.sr_load.specs.Loaded.{LoadedState, all_in, alive_in, cited_alive, IsChain}
+use Rattle.sr_load.specs.Loaded.{LoadedState, all_in, alive_in, IsChain}
 use Rattle.sr_back.specs.Testing.{assuming_all, IsChainFrom}
 use Rattle.sr_back.proofs.Orders.{refutes_sees, chain_sees}
 

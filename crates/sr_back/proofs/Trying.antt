@@ -1,6 +1,6 @@
 -- The loop over the clauses that may need a group.
-use Rattle.std.proofs.Common.{◌≡◌, ◌⊎◌, inl, inr, ℕ, ◌<◌, ◌≤◌, ◌+◌, ◌==◌, Bool, true, false, cond, not, ◌||◌, ◌&&◌, List, [], ◌∷◌, ◌++◌, Option, Some, None, refl, sym, ◌∙◌, ap, subst, arith, append-nil, append_assoc}
-use Rattle.std.specs.Prelude.{filter, map, nat_lt, All}
+use Rattle.std.proofs.Common.{◌≡◌, ℕ, ◌<◌, ◌≤◌, ◌+◌, ◌==◌, Bool, true, false, cond, not, ◌||◌, ◌&&◌, List, [], ◌∷◌, ◌++◌, Option, Some, None, refl, sym, ◌∙◌, ap, subst, arith}
+use Rattle.std.specs.Prelude.{filter, map, All}
 use Rattle.std.proofs.lemmas.Bool.Decides.{nat_tests}
 use Rattle.sr_base.specs.Literal.{Literal, has, SameSet, NoRepeats}
 use Rattle.sr_model.specs.Assignment.{holds_number}
@@ -10,14 +10,13 @@ use Rattle.sr_model.specs.Chain.{Numbered, clauses, clause_of}
 use Rattle.sr_model.specs.Meeting.{Group, Step, needs_hints}
 use Rattle.sr_model.specs.Dsr.{Lemma}
 use Rattle.sr_model.proofs.Soundness.{by_test}
-use Rattle.sr_model.proofs.Moved.{holds_append}
 use Rattle.sr_occurs.specs.Candidates.{is_left}
 use Rattle.sr_steps.specs.Kept.{Kept}
 use Rattle.sr_steps.specs.Adding.{AreOfDistinct, first_groups, with_group, with_groups}
 use Rattle.sr_trimming.specs.Citing.{groups_cite, is_cited, AreRising}
 use Rattle.sr_trimming.specs.Placing.{numbers}
 use Rattle.sr_trimming.specs.Lean.{is_lean, group_start, needs_group}
-use Rattle.sr_trimming.specs.CoreFirst.{cited_so_far, ready, first_of, AreOf, IsCoreFirst, AreInOrder, rising}
+use Rattle.sr_trimming.specs.CoreFirst.{cited_so_far, ready, first_of, AreOf, IsCoreFirst, rising}
 use Rattle.sr_trimming.specs.From.{Place, witness_of}
 use Rattle.sr_trimming.specs.Evidence.{assumed, moves}
 use Rattle.sr_load.specs.Loaded.{LoadedState, all_in, alive_in, cited_alive, standing_in}
@@ -26,7 +25,7 @@ use Rattle.sr_back.specs.Citing.{with_cited, CitesAll, is_standing, CitedAreAliv
 use Rattle.sr_back.specs.declared.testing.Trial.{Trial}
 use Rattle.sr_back.specs.Testing.{place_in, steps_in, HasWitness, IsWitnessOf, IsChainFrom, IsTested, Tells}
 use Rattle.sr_back.specs.Tries.{AreFound, has_group, HasTried, IsQueued, IsStuckAt}
-use Rattle.sr_back.proofs.Maps.{found_number, number_found, found_above}
+use Rattle.sr_back.proofs.Maps.{found_number, found_above}
 use Rattle.sr_back.proofs.Exact.{in_order_push}
 use Rattle.sr_back.proofs.Indexing.{alive_within, alive_low, standing_found, found_standing, cited_rises}
 use Rattle.sr_back.proofs.Alive.{lean_live}

@@ -1,41 +1,33 @@
 -- The turns of a backward pass.
-use Rattle.std.proofs.Common.{◌≡◌, ◌⊎◌, inl, inr, ℕ, ◌<◌, ◌≤◌, ◌+◌, ◌==◌, Bool, true, false, cond, not, ◌||◌, ◌&&◌, List, [], ◌∷◌, ◌++◌, Option, Some, None, refl, sym, ◌∙◌, ap, subst, arith, length, append-nil, append_assoc}
-use Rattle.std.specs.Prelude.{filter, map, nat_le, nat_lt, All}
+use Rattle.std.proofs.Common.{◌≡◌, inl, inr, ℕ, ◌<◌, ◌≤◌, ◌==◌, Bool, true, false, cond, not, List, [], ◌∷◌, ◌++◌, Option, Some, None, refl, sym, ◌∙◌, ap, subst, arith}
+use Rattle.std.specs.Prelude.{filter, nat_le, nat_lt}
 use Rattle.std.proofs.lemmas.Bool.Decides.{nat_tests}
-use Rattle.sr_base.specs.Literal.{Literal, NoRepeats, SameSet, compl}
+use Rattle.sr_base.specs.Literal.{Literal}
 use Rattle.sr_model.specs.Assignment.{holds_number}
-use Rattle.sr_model.specs.Refutation.{is_empty, Refutes}
-use Rattle.sr_model.specs.Redundancy.{Rup}
-use Rattle.sr_model.specs.Substitution.{Substitution, Witness}
-use Rattle.sr_model.specs.Chain.{Numbered, clauses, clause_of}
-use Rattle.sr_model.specs.Meeting.{Group, Step}
+use Rattle.sr_model.specs.Refutation.{is_empty}
+use Rattle.sr_model.specs.Chain.{Numbered}
+use Rattle.sr_model.specs.Meeting.{Step}
 use Rattle.sr_model.specs.Judging.{numbered_from}
-use Rattle.sr_model.specs.Dsr.{Lemma}
 use Rattle.sr_model.proofs.Soundness.{by_test}
-use Rattle.sr_model.proofs.Moved.{holds_append}
-use Rattle.sr_model.proofs.Chains.{closed_refutes}
-use Rattle.sr_steps.specs.Kept.{Kept, step_at, step_of}
-use Rattle.sr_trimming.specs.Reordered.{IsReordered, IsRewritten, SameFirst}
-use Rattle.sr_trimming.specs.Citing.{groups_cite, cites, is_cited, cited_of, below, need, numbered_steps, all_of, AreRising}
+use Rattle.sr_steps.specs.Kept.{Kept}
+use Rattle.sr_trimming.specs.Citing.{cites, is_cited, cited_of, below, need, numbered_steps, all_of}
 use Rattle.sr_trimming.specs.Placing.{numbers}
 use Rattle.sr_trimming.specs.Lean.{is_lean, IsLean}
-use Rattle.sr_trimming.specs.Loading.{Done, joined, removed, passed, Standing, at_start, after_done, after_all, at_conflict, at_empty_lemma, InConflict, is_empty_lemma, StopsAfter}
-use Rattle.sr_trimming.specs.From.{all_loaded, Place, place_of, CitesAlive, IsStepOf, AreFrom}
+use Rattle.sr_trimming.specs.Loading.{Done, at_start}
+use Rattle.sr_trimming.specs.From.{Place, place_of, CitesAlive, IsStepOf, AreFrom}
 use Rattle.sr_trimming.specs.Backward.{AreLinked}
-use Rattle.sr_trimming.specs.CoreFirst.{AreOf, IsCoreFirst, StepIsCoreFirst}
+use Rattle.sr_trimming.specs.CoreFirst.{StepIsCoreFirst}
 use Rattle.sr_trimming.proofs.Placed.{rise_again}
-use Rattle.sr_trimming.proofs.Leanness.{lean_closes}
-use Rattle.sr_load.specs.Loaded.{LoadedState, all_lines, all_in, alive_in, cited_alive, standing_in, next_of, IsLoaded, joins_none, TookBack, TookAll, IsChain}
-use Rattle.sr_back.specs.Citing.{with_cited, CitesAll, is_standing, CitedAreAlive}
-use Rattle.sr_back.specs.Testing.{place_in, steps_in, IsChainFrom, IsTested, with_assumed}
-use Rattle.sr_back.specs.Turning.{IsTail, tail_in, AreKnownFrom, IsSound, IsKept, IsTurn, IsOpen}
+use Rattle.sr_load.specs.Loaded.{LoadedState, all_lines, all_in, alive_in, cited_alive, standing_in}
+use Rattle.sr_back.specs.Citing.{with_cited, CitedAreAlive}
+use Rattle.sr_back.specs.Testing.{place_in, steps_in, with_assumed}
+use Rattle.sr_trimming.specs.Evidence.{FailsAt}
+use Rattle.sr_back.specs.Turning.{IsKept, IsTurn, LemmaEnd}
 use Rattle.sr_back.proofs.Maps.{Within, clause_picked, picked, picked_test, found_number, number_found}
 use Rattle.sr_back.proofs.Maps.{lean_same as lean_alike}
-use Rattle.sr_back.proofs.Standing.{alive_fits, all_rise, alive_rises, after_append, next_grows, next_kept, place_found, alive_before, alive_before_lemma}
+use Rattle.sr_back.proofs.Standing.{all_rise, alive_rises}
 use Rattle.sr_back.proofs.Exact.{rising_same}
-use Rattle.sr_back.proofs.Orders.{no_repeats_at}
-use Rattle.sr_back.proofs.Indexing.{alive_within, alive_low, took_lines, took_next, took_standing}
-use Rattle.sr_back.proofs.Alive.{lean_live}
+use Rattle.sr_back.proofs.Indexing.{alive_within, alive_low}
 
 above : (n id : ℕ) → not (nat_le id n) ≡ true → n < id
 above n id h = grind (arith, nat_tests)
@@ -146,9 +138,25 @@ kept_more st new id s steps t same cited at =
           (λ y. inl (alive_low st n (live n y)))
           (λ y. elim (t.known n (grind arith)) [
             | inl low ↦ by_test (n == id)
-              (λ z. let is : s.id ≡ n = at.number ∙ (let q : id ≡ n = grind (arith, nat_tests) in q) in inr (subst (λ m. holds_number m (numbers (all_of st.formula.clauses (s ∷ steps))) ≡ true) is (known_step st.formula.clauses s steps)))
-              (λ z. inl (let other : n < id = grind (arith, nat_tests) in omega (arith, next)))
+                (λ z. let is : s.id ≡ n = at.number ∙ (let q : id ≡ n = grind (arith, nat_tests) in q) in inr (subst (λ m. holds_number m (numbers (all_of st.formula.clauses (s ∷ steps))) ≡ true) is (known_step st.formula.clauses s steps)))
+                (λ z. inl (let other : n < id = grind (arith, nat_tests) in omega (arith, next)))
             | inr k ↦ inr (known_more st.formula.clauses s steps n k)
           ]);
     } in
     subst (λ x. IsKept x (s ∷ steps)) (sym same) k
+
+-- what is assumed plays no part in what is kept
+pub kept_undone : (st new : LoadedState) (steps : List Step) → new ≡ with_assumed st new.assumed → IsKept st steps → IsKept new steps
+kept_undone st new steps e k =
+    let u : IsKept (with_assumed st new.assumed) steps = record {
+      sound = record { in_conflict = k.sound.in_conflict; distinct = k.sound.distinct };
+      passed = k.passed;
+      cites = k.cites;
+      alive = k.alive;
+      known = k.known;
+    } in
+    subst (λ x. IsKept x steps) (sym e) u
+
+pub end_undone : (st new : LoadedState) (id : ℕ) (kept : List Kept) (r : Option ℕ) → new ≡ with_assumed st new.assumed → LemmaEnd st id kept r → LemmaEnd new id kept r
+end_undone st new id kept None e k = subst (IsKept new) (sym (ap (λ x. steps_in x kept) e)) (kept_undone st new (steps_in st kept) e k)
+end_undone st new id kept (Some against) e f = (f.0, f.1, subst (λ x. FailsAt x.formula.clauses (all_lines x) id against f.0 f.1) (sym e) f.2)

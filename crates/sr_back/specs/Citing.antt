@@ -1,5 +1,5 @@
 -- What is cited, and the lists of cited clauses by literal.
-use Rattle.std.specs.Prelude.{ℕ, ◌<◌, ◌==◌, ◌||◌, ◌&&◌, ◌≡◌, Bool, true, not, nat_lt, Some, List, [], ◌++◌}
+use Rattle.std.specs.Prelude.{ℕ, ◌==◌, ◌||◌, ◌&&◌, ◌≡◌, Bool, true, not, nat_lt, Some, List}
 use Rattle.sr_base.specs.Literal.{Literal}
 use Rattle.sr_model.specs.Assignment.{holds_number}
 use Rattle.sr_model.specs.Substitution.{Witness, substitution, reduction}

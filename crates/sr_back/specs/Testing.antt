@@ -1,5 +1,5 @@
 -- The test of a lemma: what is assumed, its witness, and what one clause tells.
-use Rattle.std.specs.Prelude.{ℕ, Bool, true, false, ◌≡◌, ◌≢◌, ◌⊎◌, Option, Some, None, List, [], ◌++◌, All}
+use Rattle.std.specs.Prelude.{ℕ, true, false, ◌≡◌, Option, Some, None, List, ◌++◌, All}
 use Rattle.sr_base.specs.Literal.{Literal, NoRepeats, SameSet}
 use Rattle.sr_model.specs.Assignment.{holds_number}
 use Rattle.sr_model.specs.Refutation.{Refutes}

@@ -122,11 +122,7 @@ pub fn cite_all<L: Loaded>(
 }
 
 /// Cites a number.
-fn cite<L: Loaded>(
-    loaded: &mut L,
-    index: &mut CitedClauses,
-    id: ClauseId,
-) -> Result<(), NoMemory>
+fn cite<L: Loaded>(loaded: &mut L, index: &mut CitedClauses, id: ClauseId) -> Result<(), NoMemory>
     requires alive { holds_number id (numbers (alive_in (L.state loaded.old))) ≡ true }
     requires index { KeepsIndex (L.state loaded.old) index.old }
     ensures cites { OnOk result (CitesAll (L.state loaded.old) (L.state loaded.new) (id ∷ [])) }

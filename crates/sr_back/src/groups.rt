@@ -73,7 +73,14 @@ pub fn find_groups<L: Loaded>(
     index.find(witness_of(loaded, own, lemma), &mut queue)?;
     steps.begin(lemma)?;
     'tries: while let Some(id) = queue.next() {
-        match try_clause(loaded, own, lemma, id, &mut scratch.lits, &mut scratch.chain)? {
+        match try_clause(
+            loaded,
+            own,
+            lemma,
+            id,
+            &mut scratch.lits,
+            &mut scratch.chain,
+        )? {
             Trial::Spare => {}
             Trial::Stuck => return Ok(Some(id)),
             Trial::Met => {

@@ -7,4 +7,5 @@ mod groups;
 mod passing;
 mod queue;
 mod testing;
+
 pub use passing::{Back, backward};

@@ -36,10 +36,17 @@ pub fn backward<L: Loaded>(alloc: Global, loaded: &mut L) -> Result<Back, NoMemo
     keep_last(loaded, &mut index, &mut steps, &mut scratch)?;
     'lines: while let Some(id) = loaded.back() {
         index.drop_lemma(id);
-        if loaded.is_cited(id)
-            && let Some(against) =
-                keep_lemma(alloc, loaded, &mut index, &mut steps, &mut scratch, id)?
-        {
+        if !loaded.is_cited(id) {
+            continue;
+        }
+        if let Some(against) = keep_lemma(
+            alloc,
+            loaded,
+            &mut index,
+            &mut steps,
+            &mut scratch,
+            id,
+        )? {
             return Ok(Back::Failed { lemma: id, against });
         }
     }

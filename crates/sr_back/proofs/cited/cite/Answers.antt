@@ -1,6 +1,6 @@
-use Rattle.std.proofs.Common.{◌≡◌, ◌<◌, subst, sym}
+use Rattle.std.proofs.Common.{◌<◌, subst, sym}
 use Rattle.sr_load.specs.Loaded.{next_of}
-use Rattle.sr_back.proofs.Indexing.{alive_positive, alive_high, cite_indexed, cites_one, cites_known}
+use Rattle.sr_back.proofs.Indexing.{alive_positive, alive_high, cite_indexed, cites_one}
 use Rattle.sr_back.proofs.cited.cite.Goals as goal
 
 pub enter-requires-clause-low : goal.enter-requires-clause-low

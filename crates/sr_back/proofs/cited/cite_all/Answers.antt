@@ -1,10 +1,10 @@
-use Rattle.std.proofs.Common.{rules, ◌≡◌, ◌<◌, ◌+◌, ◌++◌, ◌∷◌, [], true, take, get_or, length, subst, sym, ap, arith}
+use Rattle.std.proofs.Common.{rules, ◌≡◌, true, take, get_or, subst, sym, arith}
 use Rattle.std.proofs.lemmas.List.{take_more}
 use Rattle.sr_model.specs.Assignment.{holds_number}
 use Rattle.sr_trimming.specs.Placing.{numbers}
 use Rattle.sr_load.specs.Loaded.{alive_in}
 use Rattle.sr_back.specs.Citing.{CitesAll}
-use Rattle.sr_back.proofs.Indexing.{cites_none, cites_then, hint_there}
+use Rattle.sr_back.proofs.Indexing.{cites_then, hint_there}
 use Rattle.sr_back.proofs.cited.cite_all.Goals as goal
 
 pub cite-requires-clause-alive : goal.cite-requires-clause-alive

@@ -1,4 +1,4 @@
-use Rattle.std.proofs.Common.{◌≡◌, ◌||◌, ◌&&◌, ◌==◌, ◌++◌, ◌∷◌, [], ◌+◌, ℕ, true, not, take, get_or, length, sym, ap, subst, ◌∙◌, arith}
+use Rattle.std.proofs.Common.{sym, ap, ◌∙◌}
 use Rattle.sr_model.specs.Assignment.{holds_number}
 use Rattle.sr_back.proofs.Indexing.{new_more, new_same}
 use Rattle.sr_back.proofs.groups.put_new.Goals as goal

@@ -1,11 +1,10 @@
-use Rattle.std.proofs.Common.{◌≡◌, ◌∷◌, ◌++◌, [], ℕ, List, true, false, take, refl, subst, sym, ap, ◌∙◌, arith}
+use Rattle.std.proofs.Common.{◌≡◌, ◌∷◌, ◌++◌, [], true, false, refl, subst, sym, ap, ◌∙◌, arith}
 use Rattle.sr_base.specs.Literal.{compl}
 use Rattle.sr_model.specs.Assignment.{holds_number}
 use Rattle.sr_model.specs.Refutation.{Refutes}
 use Rattle.sr_model.specs.Chain.{clauses}
-use Rattle.sr_steps.specs.Kept.{Kept}
 use Rattle.sr_trimming.specs.Placing.{numbers}
-use Rattle.sr_load.specs.Loaded.{alive_in, next_of, IsChain, Tests, HasClauseAt}
+use Rattle.sr_load.specs.Loaded.{alive_in, IsChain, Tests}
 use Rattle.sr_back.specs.Citing.{CitesAll}
 use Rattle.sr_back.specs.Testing.{assuming_all, with_assumed, steps_in}
 use Rattle.sr_back.proofs.Alive.{lean_live}
@@ -50,8 +49,7 @@ returns-clause-kept g c =
     let undone : g.L.Loaded.state c.undo_to.new.self ≡ st = c.undo_to.ensures ∙ ap (λ x. with_assumed x []) asked ∙ ap (with_assumed st) (sym c.requires.assumed) in
     let new = g.L.Loaded.state c.cite_all.new.loaded in
     let cites : CitesAll st new c.refute.new.chain = subst (CitesAll st new) c.as_slice-2.ensures (subst (λ x. CitesAll x new c.as_slice-2.result.now) undone c.in_ok-cite_all.ensures.cites) in
-    let from = chain_from st c.args.id c.requires.turn.place c.clause.result.now c.refute.new.chain c.requires.turn.sound.distinct c.requires.assumed c.requires.turn.is_place c.clause.ensures k in
-    (
+    let from = chain_from st c.args.id c.requires.turn.place c.clause.result.now c.refute.new.chain c.requires.turn.sound.distinct c.requires.assumed c.requires.turn.is_place c.clause.ensures k in (
       keeps_propagated st new c.args.id c.refute.new.chain c.args.steps.now c.push.new.self c.requires.turn from cites
           (c.in_ok-push.ensures.ok ∙ ap (λ ns. plain_kept c.args.id ns ∷ c.args.steps.now) c.as_slice-3.ensures),
       ap (λ x. x.assumed) cites.same ∙ c.requires.assumed,

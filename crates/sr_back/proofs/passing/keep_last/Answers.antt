@@ -2,7 +2,7 @@ use Rattle.std.proofs.Common.{◌≡◌, ◌∷◌, [], ℕ, List, true, false, 
 use Rattle.sr_model.specs.Assignment.{holds_number}
 use Rattle.sr_steps.specs.Kept.{Kept}
 use Rattle.sr_trimming.specs.Placing.{numbers}
-use Rattle.sr_load.specs.Loaded.{alive_in, next_of, IsChain, Tests}
+use Rattle.sr_load.specs.Loaded.{alive_in, IsChain, Tests}
 use Rattle.sr_back.specs.Citing.{CitesAll}
 use Rattle.sr_back.proofs.Alive.{lean_live}
 use Rattle.sr_back.proofs.Lines.{first_refuted, first_kept}

@@ -1,5 +1,4 @@
-use Rattle.std.proofs.Common.{◌≡◌, ◌∙◌, sym}
-use Rattle.sr_back.specs.Testing.{HasWitness}
+use Rattle.std.proofs.Common.{sym}
 use Rattle.sr_back.proofs.Trials.{has_written, has_pivot_only, written_there, none_there}
 use Rattle.sr_back.proofs.testing.own_witness.Goals as goal
 

@@ -1,11 +1,10 @@
-use Rattle.std.proofs.Common.{◌≡◌, ◌++◌, ◌==◌, List, ℕ, true, false, [], length, sym, ap, subst, ◌∙◌}
-use Rattle.sr_base.specs.Literal.{Literal, compl}
+use Rattle.std.proofs.Common.{◌≡◌, ◌++◌, ◌==◌, true, false, length, sym, ap, subst, ◌∙◌}
+use Rattle.sr_base.specs.Literal.{compl}
 use Rattle.sr_model.specs.Refutation.{Refutes}
 use Rattle.sr_model.specs.Chain.{clauses}
-use Rattle.sr_model.specs.Substitution.{Witness, substitution, reduction, left}
-use Rattle.sr_wit.specs.Reductions.{reduced_of}
+use Rattle.sr_model.specs.Substitution.{substitution, reduction, left}
 use Rattle.sr_load.specs.Loaded.{alive_in, IsChain, Tests}
-use Rattle.sr_back.specs.Testing.{assuming_all, IsWitnessOf}
+use Rattle.sr_back.specs.Testing.{assuming_all}
 use Rattle.sr_back.proofs.Trials.{spare_of, spare_unless, stuck_of, paired_of, met_of, same_witness, left_of}
 use Rattle.sr_back.proofs.testing.try_clause.Goals as goal
 

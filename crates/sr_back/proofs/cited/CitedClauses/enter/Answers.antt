@@ -1,5 +1,3 @@
-use Rattle.std.proofs.Common.{◌≡◌, sym, subst, ap, ◌∙◌}
-use Rattle.sr_back.specs.Citing.{Entered}
 use Rattle.sr_back.proofs.Indexing.{under_reordered}
 use Rattle.sr_back.proofs.cited.CitedClauses.enter.Goals as goal
 

@@ -1,6 +1,5 @@
-use Rattle.std.proofs.Common.{rules, ◌≡◌, ◌<◌, ◌+◌, subst, sym, ap, refl, ◌∙◌, arith}
-use Rattle.sr_load.specs.Loaded.{next_of, standing_in}
-use Rattle.sr_back.proofs.Indexing.{IndexedBelow, below_first, below_more, below_same, below_all, next_within}
+use Rattle.std.proofs.Common.{◌+◌, subst, sym, refl, ◌∙◌, arith}
+use Rattle.sr_back.proofs.Indexing.{IndexedBelow, below_first, below_more, below_same, next_within}
 use Rattle.sr_back.proofs.cited.CitedClauses.make.Goals as goal
 use Rattle.sr_back.proofs.cited.CitedClauses.make.Goals.{then-is_cited+in_ok-enter, else-is_cited}
 

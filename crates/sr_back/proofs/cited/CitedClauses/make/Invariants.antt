@@ -1,4 +1,3 @@
-use Rattle.std.proofs.Common.{◌≡◌, ◌≤◌}
 use Rattle.sr_back.proofs.Indexing.{IndexedBelow}
 use Rattle.sr_back.proofs.cited.CitedClauses.make.Given as goal
 

@@ -1,4 +1,4 @@
-use Rattle.std.proofs.Common.{◌≡◌, Option, Some, None, List, ℕ, IfSome}
+use Rattle.std.proofs.Common.{Option, Some, None, List, ℕ, IfSome}
 use Rattle.std.specs.Prelude.{All}
 use Rattle.std.specs.Ordering.{nat_cmp}
 use Rattle.std.specs.BTreeMap.Range.{IsLtBy}

@@ -1,6 +1,4 @@
-use Rattle.std.proofs.Common.{◌≡◌, ap, sym, ◌∙◌, subst}
-use Rattle.std.specs.List.{list_any}
-use Rattle.std.specs.Ordering.{nat_cmp, is_eq}
+use Rattle.std.proofs.Common.{subst}
 use Rattle.sr_back.specs.Queued.{Puts}
 use Rattle.sr_back.proofs.Queues.{puts_from}
 use Rattle.sr_back.proofs.queue.Queue.put.Goals as goal
