@@ -1,5 +1,5 @@
 -- What the backward pass makes of a loaded proof.
-use Rattle.std.specs.Prelude.{ℕ, ◌≡◌, List, length, map}
+use Rattle.std.specs.Prelude.{◌≡◌, List, length, map}
 use Rattle.sr_base.specs.Literal.{Literal}
 use Rattle.sr_model.specs.Meeting.{Group, Step}
 use Rattle.sr_steps.specs.Kept.{Kept, step_of}

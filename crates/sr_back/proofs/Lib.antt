@@ -1,0 +1,13 @@
+pub mod Maps
+pub mod Standing
+pub mod Exact
+pub mod Queues
+pub mod Indexing
+pub mod Orders
+pub mod Trials
+pub mod Alive
+pub mod Trying
+pub mod Turns
+pub mod Lines
+pub mod Keeping
+pub mod Witnessed
