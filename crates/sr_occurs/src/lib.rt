@@ -7,6 +7,8 @@
 mod candidates;
 mod number_list;
 mod occurrences;
+#[cfg(test)]
+mod tests;
 
 pub use candidates::gather_candidates;
 pub use occurrences::Occurrences;
