@@ -46,8 +46,8 @@ kept_false : (p : ℕ → Bool) (t : List ℕ) (n : ℕ) (f : List (List Literal
 kept_false p t n [] h = h
 kept_false p t n (c ∷ cs) h = by_test (p n)
     (λ e. by_test (satisfies t c)
-        (λ s. let rest : satisfies_all t (clauses (filter (λ x. p x.0) (numbered_from (n + 1) cs))) ≡ false = rw (e, s) at h in rw (s, kept_false p t (n + 1) cs rest) refl)
-        (λ s. rw s refl))
+    (λ s. let rest : satisfies_all t (clauses (filter (λ x. p x.0) (numbered_from (n + 1) cs))) ≡ false = rw (e, s) at h in rw (s, kept_false p t (n + 1) cs rest) refl)
+    (λ s. rw s refl))
     (λ e. let rest : satisfies_all t (clauses (filter (λ x. p x.0) (numbered_from (n + 1) cs))) ≡ false = rw e at h in rw (kept_false p t (n + 1) cs rest) (and_false (satisfies t c)))
   where
     and_false : (b : Bool) → (b && false) ≡ false

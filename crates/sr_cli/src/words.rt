@@ -320,7 +320,9 @@ fn trim_of<'a>(
     let Some(proof_form) = proof_form else {
         return None
     };
-    let Some(lsr_form) = lsr_form else { return None };
+    let Some(lsr_form) = lsr_form else {
+        return None
+    };
     Some(TrimWords {
         formula,
         proof,

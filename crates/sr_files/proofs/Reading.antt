@@ -114,4 +114,3 @@ unread_formula lim s c (fault.Text kind place) k u a = absurd k
 unread_formula lim s c (fault.Limit kind) k u a = absurd k
 unread_formula lim s c fault.Source k u a = rw (unread_text lim.bytes s c (u refl) a) refl
 unread_formula lim s c fault.NoMemory k u a = tt
-

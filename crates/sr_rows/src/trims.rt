@@ -61,7 +61,11 @@ fn is_verified(alloc: Global, desk: &mut MemoryDesk, form: &str) -> Result<(), F
     for strict in [false, true] {
         desk.restart();
         let words = ["check", "f", "l", "--proof-form", form, "--strict"];
-        let words = if strict { words.as_slice() } else { &words[..5] };
+        let words = if strict {
+            words.as_slice()
+        } else {
+            &words[..5]
+        };
         let got = status_of(alloc, &Limits::shipped(), words, desk)?;
         wants(0, VERIFIED, got, desk.out_bytes())?;
     }
@@ -120,12 +124,7 @@ fn formulas_that_conflict_alone_need_no_proof(rt: HostRuntime) -> Result<(), Fai
     all_trim(alloc, &[empty, with(units, &["--stats"])])?;
     writes(alloc, &empty, "2 0 1 0\n", "p cnf 0 1\n0\n")?;
     let mut desk = desk_of(alloc, "p cnf 1 2\n1 0\n-1 0\n", "", 1000)?;
-    let got = status_of(
-        alloc,
-        &Limits::shipped(),
-        &["trim", "f", "none"],
-        &mut desk,
-    )?;
+    let got = status_of(alloc, &Limits::shipped(), &["trim", "f", "none"], &mut desk)?;
     wants(0, VERIFIED, got, desk.out_bytes())?;
     assert_eq!(rt; desk.calls(CallKind::BeginRead), 1);
     Ok(())
@@ -134,7 +133,8 @@ fn formulas_that_conflict_alone_need_no_proof(rt: HostRuntime) -> Result<(), Fai
 #[test]
 fn lemmas_by_propagation_are_trimmed(rt: HostRuntime) -> Result<(), Fail> {
     let alloc = rt.alloc();
-    let counted = "c clauses 4\nc core 4\nc lemmas 1\nc steps 2\nc hints 5\nc passed 0\ns VERIFIED UNSAT\n";
+    let counted =
+        "c clauses 4\nc core 4\nc lemmas 1\nc steps 2\nc hints 5\nc passed 0\ns VERIFIED UNSAT\n";
     let uncited = trim(
         "p cnf 4 5\n1 2 0\n-1 2 0\n1 -2 0\n-1 -2 0\n3 4 0\n",
         "-4 0\n2 0\n",
@@ -212,7 +212,8 @@ fn lines_that_are_not_spelled_are_placed(rt: HostRuntime) -> Result<(), Fail> {
 
 #[test]
 fn deletions_of_nothing_are_passed_over(rt: HostRuntime) -> Result<(), Fail> {
-    let report = "c clauses 4\nc core 4\nc lemmas 1\nc steps 2\nc hints 5\nc passed 1\ns VERIFIED UNSAT\n";
+    let report =
+        "c clauses 4\nc core 4\nc lemmas 1\nc steps 2\nc hints 5\nc passed 1\ns VERIFIED UNSAT\n";
     all_trim(
         rt.alloc(),
         &[
@@ -234,7 +235,10 @@ fn units_are_kept_where_that_is_asked_for(rt: HostRuntime) -> Result<(), Fail> {
             trim(one, "d 1 0\n2 0\n", 1, "s NO EMPTY CLAUSE\n"),
             with(trim(one, "d 1 0\n2 0\n", 0, VERIFIED), &["--keep-units"]),
             trim(chain, "d -1 2 0\n3 0\n", 1, "s NO EMPTY CLAUSE\n"),
-            with(trim(chain, "d -1 2 0\n3 0\n", 0, VERIFIED), &["--keep-units"]),
+            with(
+                trim(chain, "d -1 2 0\n3 0\n", 0, VERIFIED),
+                &["--keep-units"],
+            ),
             with(
                 trim(FOUR, "d 1 2 0\n2 0\n", 1, "s REJECTED lemma 5 against 3\n"),
                 &["--keep-units"],
@@ -259,10 +263,18 @@ fn limits_of_trim_are_named(rt: HostRuntime) -> Result<(), Fail> {
     let ids = Limits::new(MOST_VARS, 5, MOST_CELLS, MOST_BYTES).ok_or("no limits")?;
     let few_bytes = Limits::new(MOST_VARS, MOST_IDS, MOST_CELLS, 158).ok_or("no limits")?;
     let bytes = Limits::new(MOST_VARS, MOST_IDS, MOST_CELLS, 164).ok_or("no limits")?;
-    trims(alloc, &few_cells, &trim(FOUR, "2 0\n", 4, "e limit proof cells\n"))?;
+    trims(
+        alloc,
+        &few_cells,
+        &trim(FOUR, "2 0\n", 4, "e limit proof cells\n"),
+    )?;
     trims(alloc, &cells, &trim(FOUR, "2 0\n", 0, VERIFIED))?;
     trims(alloc, &ids, &trim(FOUR, "2 0\n", 4, "e limit proof ids\n"))?;
-    trims(alloc, &few_bytes, &trim(SIX, SIX_LEMMAS, 4, "e limit lsr bytes\n"))?;
+    trims(
+        alloc,
+        &few_bytes,
+        &trim(SIX, SIX_LEMMAS, 4, "e limit lsr bytes\n"),
+    )?;
     trims(alloc, &bytes, &trim(SIX, SIX_LEMMAS, 0, VERIFIED))
 }
 

@@ -123,8 +123,9 @@ formula_read lim s f r mid new one reads_it slots h = at r h
 
     at : (r : Result LoaderState Outcome) → LoadsClauses lim s f new r → LoadsFiles lim s new r
     at (Ok st) h =
-        let formula : st.formula ≡ f = ap (λ (x : LoaderState). x.formula) h.0 in
-        (h.0 ∙ ap (λ (g : Formula). record (loading lim s g st.done) { stop = at_conflict }) (sym formula),
-        λ dec by. decides dec (h.1 dec (subst (λ (g : Formula). ByPass lim s g st.done dec) formula by)))
+        let formula : st.formula ≡ f = ap (λ (x : LoaderState). x.formula) h.0 in (
+          h.0 ∙ ap (λ (g : Formula). record (loading lim s g st.done) { stop = at_conflict }) (sym formula),
+          λ dec by. decides dec (h.1 dec (subst (λ (g : Formula). ByPass lim s g st.done dec) formula by)),
+        )
     at (Err o) (inl e) = inl e
     at (Err o) (inr by) = inr (decides (stops o) by)

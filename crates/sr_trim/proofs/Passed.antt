@@ -215,10 +215,10 @@ module _ (lim : LimitValues) (s : TrimSaid) (st : LoadedState) (ks : List Kept) 
   no_lsr o g = elim g.2 [
     | inl e ↦ inl e
     | inr e ↦ inr (inr (record {
-        steps = g.0;
-        trimming = trimming_of st.formula.clauses (all_lines st) ks g.0 n h.pivots h.whole g.1;
-        is = ap stops e.0 ∙ lsr_long lim s st.formula (all_lines st) g.0 e.1;
-      }))
+      steps = g.0;
+      trimming = trimming_of st.formula.clauses (all_lines st) ks g.0 n h.pivots h.whole g.1;
+      is = ap stops e.0 ∙ lsr_long lim s st.formula (all_lines st) g.0 e.1;
+    }))
   ]
 
   -- the core's text isn't given

@@ -146,9 +146,11 @@ module _ (lim : LimitValues) (s : TrimSaid) (f : Formula) (first now new : Reade
   -- the clauses conflict
   pub standing_conflicts : (q : Outside) (x : DsrLine) (st' : LoaderState) → Standing lim s f first now o st → Reads first now q o false → Reads now new o p false → IsNext (Ok (Some x))
       → Takes st st' (line_of x) taken.Conflict → LoadsTo lim s f first p (Ok st')
-  standing_conflicts q x st' h whole r gives takes =
-      (state_on (line_of x) st' at_conflict h takes.1 takes.2, stops_on (line_of x) st' at_conflict h takes.1 takes.2,
-      λ dec by. at_line q x dec h whole r gives (by_stop st' (line_of x) dec h takes.1 takes.0 (inl (stops_on (line_of x) st' at_conflict h takes.1 takes.2, by))))
+  standing_conflicts q x st' h whole r gives takes = (
+    state_on (line_of x) st' at_conflict h takes.1 takes.2,
+    stops_on (line_of x) st' at_conflict h takes.1 takes.2,
+    λ dec by. at_line q x dec h whole r gives (by_stop st' (line_of x) dec h takes.1 takes.0 (inl (stops_on (line_of x) st' at_conflict h takes.1 takes.2, by))),
+  )
 
   -- the line ends loading with an outcome
   pub standing_ends : (q : Outside) (x : DsrLine) (st' : LoaderState) (out : Outcome) → Standing lim s f first now o st → Reads first now q o false → Reads now new o p false → IsNext (Ok (Some x))
@@ -159,7 +161,7 @@ module _ (lim : LimitValues) (s : TrimSaid) (f : Formula) (first now new : Reade
   standing_ends q x st' out h whole r gives (inr (inr e)) =
       let t : TakesLine st st' (line_of x) = e.1 in
       inr (at_line q x (stops out) h whole r gives (by_stop st' (line_of x) (stops out) h t e.0
-          (inr (stops_on (line_of x) st' at_empty_lemma h t e.2, ap stops (e.3 ∙ ap (λ (g : Formula). outcome.RejectedLemma ((after_all (at_start g.clauses) st'.done).next - 1) None) (formula_on (line_of x) st' h t))))))
+      (inr (stops_on (line_of x) st' at_empty_lemma h t e.2, ap stops (e.3 ∙ ap (λ (g : Formula). outcome.RejectedLemma ((after_all (at_start g.clauses) st'.done).next - 1) None) (formula_on (line_of x) st' h t))))))
 
   -- where no line is read
   pub standing_fault : (q : Outside) (x : Bool) (e : InputError) → Standing lim s f first now o st → Reads first now q o false → Reads now new o p x → IsNext (Err e)

@@ -28,7 +28,12 @@ pub struct Texts {
 }
 
 /// A text, unless it passes the limit of bytes.
-fn within(limits: &Limits, which: Which, name: &str, text: ByteList) -> Result<Option<ByteList>, Outcome>
+fn within(
+    limits: &Limits,
+    which: Which,
+    name: &str,
+    text: ByteList,
+) -> Result<Option<ByteList>, Outcome>
     ensures { IsGiven limits.now which (Some name.now) text result }
 {
     if text.as_slice().len() as u64 > limits.bytes() {

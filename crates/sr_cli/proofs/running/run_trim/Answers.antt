@@ -11,12 +11,12 @@ returns g c =
     let old = g.D.Desk.outside c.args.desk.now in
     let new = g.D.Desk.outside c.report.new.desk in
     let runs = runs_reported c.args.limits.now (trim_said c.args.asked_for.now) (g.D.Desk.outside c.args.desk.now) (g.D.Desk.outside c.trim_files-found.new.desk) (g.D.Desk.outside c.report.new.desk)
-        c.trim_files-found.result.outcome c.report.result c.trim_files-found.result.counts (option_map (λ x. x.now) c.if-not-asked_for.counts)
-        c.trim_files-found.ensures c.in_default.not-SinkFault c.in_default.not-NoMemory c.report.ensures.only
-        (elim c.if-not-asked_for.branch [
-          | then-not-asked_for w ↦ rw (w.counts-is, w.if-not-asked_for.true) refl
-          | else-not-asked_for w ↦ rw (w.counts-is, w.if-not-asked_for.false) refl
-        ]) c.report.ensures.reports in
+    c.trim_files-found.result.outcome c.report.result c.trim_files-found.result.counts (option_map (λ x. x.now) c.if-not-asked_for.counts)
+    c.trim_files-found.ensures c.in_default.not-SinkFault c.in_default.not-NoMemory c.report.ensures.only
+    (elim c.if-not-asked_for.branch [
+      | then-not-asked_for w ↦ rw (w.counts-is, w.if-not-asked_for.true) refl
+      | else-not-asked_for w ↦ rw (w.counts-is, w.if-not-asked_for.false) refl
+    ]) c.report.ensures.reports in
     record {
       runs = runs;
       sound = trim_sound c.args.limits.now s old new c.report.result c.requires runs;

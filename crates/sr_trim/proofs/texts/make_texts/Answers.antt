@@ -24,7 +24,7 @@ returns-in-Err-core_asked g c =
     no_core c.args.limits.now (trim_said c.args.words.now) (g.L.Loaded.state c.args.loaded.now) c.args.steps.now
     (subst (λ (f : Formula). All NoRepeats f.clauses) c.formula-formula.ensures c.count-clauses.ensures.distinct) c.requires.writable c.in-Ok-lsr_asked.lsr c.in-Err-core_asked.outcome c.in-Ok-lsr_asked.ensures
     (subst (λ (f : Formula). IsGiven c.args.limits.now which.Core (trim_said c.args.words.now).core (core_text f ss) (Err c.in-Err-core_asked.outcome)) c.formula-formula.ensures
-        (c.in-Err-core_asked.ensures ss (c.in-Ok.ensures ∙ ap (λ (f : Formula). placing_of f.clauses ss) (sym c.formula-formula.ensures))))
+    (c.in-Err-core_asked.ensures ss (c.in-Ok.ensures ∙ ap (λ (f : Formula). placing_of f.clauses ss) (sym c.formula-formula.ensures))))
 
 pub returns : goal.returns
 returns g c =
@@ -34,8 +34,8 @@ returns g c =
     (subst (λ (f : Formula). All NoRepeats f.clauses) c.formula-formula.ensures c.count-clauses.ensures.distinct) c.requires.writable
     _ c.in-Ok-lsr_asked.ensures
     (subst (λ (f : Formula). IsGiven c.args.limits.now which.Core (trim_said c.args.words.now).core (core_text f ss) (Ok c.in-Ok-core_asked.core)) c.formula-formula.ensures
-        (c.in-Ok-core_asked.ensures ss (c.in-Ok.ensures ∙ ap (λ (f : Formula). placing_of f.clauses ss) (sym c.formula-formula.ensures))))
+    (c.in-Ok-core_asked.ensures ss (c.in-Ok.ensures ∙ ap (λ (f : Formula). placing_of f.clauses ss) (sym c.formula-formula.ensures))))
     (λ ts w. counts_are (g.L.Loaded.state c.args.loaded.now).formula.clauses (all_lines (g.L.Loaded.state c.args.loaded.now)) c.args.steps.now ts _ w
-        (c.from.ensures ∙ c.count-clauses.ensures.value ∙ ap (λ (f : Formula). length f.clauses) c.formula-formula.ensures)
-        (c.statistics-sizes.ensures.core ∙ ap (λ (p : PlacingValue). length p.core) c.in-Ok.ensures)
-        (c.from-2.ensures ∙ c.requires.lemmas) c.statistics-sizes.ensures.steps c.statistics-sizes.ensures.hints c.requires.passed)
+    (c.from.ensures ∙ c.count-clauses.ensures.value ∙ ap (λ (f : Formula). length f.clauses) c.formula-formula.ensures)
+    (c.statistics-sizes.ensures.core ∙ ap (λ (p : PlacingValue). length p.core) c.in-Ok.ensures)
+    (c.from-2.ensures ∙ c.requires.lemmas) c.statistics-sizes.ensures.steps c.statistics-sizes.ensures.hints c.requires.passed)

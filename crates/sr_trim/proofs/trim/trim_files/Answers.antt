@@ -22,8 +22,8 @@ returns-in-Err-pass g c =
 pub returns : goal.returns
 returns g c =
     found_trim c.args.limits.now (trim_said c.args.words.now) (g.D.Desk.outside c.args.desk.now) (g.D.Desk.outside c.load_files.new.desk) c.in-Ok.loader (g.D.Desk.outside c.write_texts-outcome.new.desk)
-    c.write_texts-outcome.result c.in-Ok-pass.texts c.in-Ok.ensures.slots c.in-Ok.ensures.formula c.in-Ok.ensures.file c.in-Ok.ensures.loads c.in-Ok-pass.ensures 
+    c.write_texts-outcome.result c.in-Ok-pass.texts c.in-Ok.ensures.slots c.in-Ok.ensures.formula c.in-Ok.ensures.file c.in-Ok.ensures.loads c.in-Ok-pass.ensures
     (subst (λ (x : Option (List ℕ)). WritesTwo (trim_said c.args.words.now).lsr x (trim_said c.args.words.now).core c.in-Ok-pass.texts.core (g.D.Desk.outside c.load_files.new.desk) (g.D.Desk.outside c.write_texts-outcome.new.desk) c.write_texts-outcome.result)
-        c.as_ref.ensures.value
-        (subst (λ (x : Option (List ℕ)). WritesTwo (trim_said c.args.words.now).lsr (option_copied c.as_ref.result) (trim_said c.args.words.now).core x (g.D.Desk.outside c.load_files.new.desk) (g.D.Desk.outside c.write_texts-outcome.new.desk) c.write_texts-outcome.result)
-        c.as_ref-2.ensures.value c.write_texts-outcome.ensures))
+    c.as_ref.ensures.value
+    (subst (λ (x : Option (List ℕ)). WritesTwo (trim_said c.args.words.now).lsr (option_copied c.as_ref.result) (trim_said c.args.words.now).core x (g.D.Desk.outside c.load_files.new.desk) (g.D.Desk.outside c.write_texts-outcome.new.desk) c.write_texts-outcome.result)
+    c.as_ref-2.ensures.value c.write_texts-outcome.ensures))
