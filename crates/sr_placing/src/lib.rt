@@ -12,6 +12,8 @@ mod placing;
 mod sink;
 mod spelling;
 mod step;
+#[cfg(test)]
+mod tests;
 mod uses;
 mod write;
 
