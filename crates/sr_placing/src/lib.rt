@@ -5,7 +5,7 @@
 mod buffer;
 mod bytes;
 mod chains;
-mod core;
+mod core_text;
 mod counts;
 mod length;
 mod placing;
@@ -18,7 +18,7 @@ mod uses;
 mod write;
 
 pub use buffer::Buffer;
-pub use core::{core_bytes, core_length, write_core};
+pub use core_text::{core_bytes, core_length, write_core};
 pub use counts::{Sizes, statistics};
 pub use placing::Placing;
 pub use write::{lsr_bytes, lsr_length, write_lsr};
