@@ -11,3 +11,4 @@ pub mod Ready
 pub mod Coring
 pub mod Totals
 pub mod Sending
+pub mod Digits

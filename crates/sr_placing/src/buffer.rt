@@ -33,7 +33,9 @@ impl Model for Buffer {
 
 impl Buffer {
     /// An empty buffer.
-    pub fn new(alloc: Global) -> Result<Buffer, NoMemory> {
+    pub fn new(alloc: Global) -> Result<Buffer, NoMemory>
+        ensures { IfOk result (λ b. b ≡ record { slot = 8; buffered = []; failed = false }) }
+    {
         let Ok(bytes) = Vec::with_capacity(alloc, ROOM) else {
             return Err(NoMemory);
         };

@@ -7,12 +7,15 @@ ghost use Rattle.sr_scan.specs.Written.{written_number, written_end};
 use crate::sink::Sink;
 use sr_base::Form;
 
-/// Spells a size at the end of an array, and says where it begins; there is room for a sign before it.
-fn spell(text: &mut [u8; 20], size: u64) -> usize
+/// So many bytes hold the digits of a size with a sign before them and one byte behind them.
+const TEXT: usize = 21;
+
+/// Spells a size in digits before the last byte of an array, and says where it begins; there is room for a sign before it.
+fn spell(text: &mut [u8; TEXT], size: u64) -> usize
     requires { size ≤ 2 ^ 63 }
     ensures low { 1 ≤ result }
-    ensures high { result ≤ 20 }
-    ensures digits { drop result text.new ≡ decimal size }
+    ensures high { result < 20 }
+    ensures digits { drop result text.new ≡ decimal size ++ drop 20 text.old }
 {
     let mut at = 20;
     let mut left = size;
@@ -43,19 +46,28 @@ fn spell_value(bytes: &mut [u8; 5], value: u64) -> usize
     len + 1
 }
 
-/// Puts a number in text, without the space behind it.
-pub fn put_digits<O, S: Sink<O>>(sink: &mut S, out: &mut O, x: i64)
-    requires can { S.can_put sink.old out.old }
-    ensures { S.puts sink.old out.old sink.new out.new (signed_decimal x) }
+/// Spells a number in digits before the last byte of an array, behind `-` where it is negative, and says where it begins.
+fn spell_signed(text: &mut [u8; TEXT], x: i64) -> usize
+    ensures high { result < 20 }
+    ensures digits { drop result text.new ≡ signed_decimal x ++ drop 20 text.old }
 {
-    let mut text = [0; 20];
-    let at = spell(&mut text, x.unsigned_abs());
+    let at = spell(text, x.unsigned_abs());
     if x < 0 {
         text[at - 1] = b'-';
-        sink.put(out, &text[at - 1..]);
-    } else {
-        sink.put(out, &text[at..]);
+        return at - 1;
     }
+    at
+}
+
+/// Puts a size in digits.
+pub fn put_decimal<O, S: Sink<O>>(sink: &mut S, out: &mut O, size: u64)
+    requires can { S.can_put sink.old out.old }
+    requires small { size ≤ 2 ^ 63 }
+    ensures { S.puts sink.old out.old sink.new out.new (decimal size) }
+{
+    let mut text = [b' '; TEXT];
+    let at = spell(&mut text, size);
+    sink.put(out, &text[at..TEXT - 1]);
 }
 
 /// Puts a number in binary.
@@ -71,6 +83,16 @@ fn put_groups<O, S: Sink<O>>(sink: &mut S, out: &mut O, x: i64)
     sink.put(out, &bytes[..len]);
 }
 
+/// Puts a number in text, with the space behind it.
+fn put_spaced<O, S: Sink<O>>(sink: &mut S, out: &mut O, x: i64)
+    requires can { S.can_put sink.old out.old }
+    ensures { S.puts sink.old out.old sink.new out.new (written_number Form.Text x) }
+{
+    let mut text = [b' '; TEXT];
+    let at = spell_signed(&mut text, x);
+    sink.put(out, &text[at..]);
+}
+
 /// Puts a number; in text with the space behind it.
 pub fn put_number<O, S: Sink<O>>(form: Form, sink: &mut S, out: &mut O, x: i64)
     requires can { S.can_put sink.old out.old }
@@ -78,10 +100,7 @@ pub fn put_number<O, S: Sink<O>>(form: Form, sink: &mut S, out: &mut O, x: i64)
     ensures { S.puts sink.old out.old sink.new out.new (written_number form x) }
 {
     match form {
-        Form::Text => {
-            put_digits(sink, out, x);
-            sink.put(out, b" ");
-        }
+        Form::Text => put_spaced(sink, out, x),
         Form::Binary => put_groups(sink, out, x),
     }
 }

@@ -69,7 +69,7 @@ fn put_groups<O, S: Sink<O>>(form: Form, sink: &mut S, out: &mut O, steps: &Step
 }
 
 /// The hints of a step, and the `0`s before and after them.
-fn put_hints<O, S: Sink<O>>(form: Form, sink: &mut S, out: &mut O, steps: &StepTable, i: usize)
+pub fn put_hints<O, S: Sink<O>>(form: Form, sink: &mut S, out: &mut O, steps: &StepTable, i: usize)
     requires can { S.can_put sink.old out.old }
     requires index { i < length steps.now }
     requires small { IsSmallKept (slice_index_or steps.now i (bare 0 false)) }
@@ -114,7 +114,13 @@ pub fn put_literals<O, S: Sink<O>>(form: Form, sink: &mut S, out: &mut O, lits: 
 }
 
 /// The pivot of a clause, and then its other literals.
-fn put_pivot_first<O, S: Sink<O>>(form: Form, sink: &mut S, out: &mut O, pivot: Lit, lits: &[Lit])
+pub fn put_pivot_first<O, S: Sink<O>>(
+    form: Form,
+    sink: &mut S,
+    out: &mut O,
+    pivot: Lit,
+    lits: &[Lit],
+)
     requires { S.can_put sink.old out.old }
     ensures { S.puts sink.old out.old sink.new out.new (written_literals form (put_first pivot lits.now)) }
 {
@@ -157,7 +163,7 @@ fn put_maps<O, S: Sink<O>>(form: Form, sink: &mut S, out: &mut O, pivot: Lit, ma
 }
 
 /// The literals of a witness; without one, the pivot becomes true and nothing else.
-fn put_witness<O, S: Sink<O>>(
+pub fn put_witness<O, S: Sink<O>>(
     form: Form,
     sink: &mut S,
     out: &mut O,

@@ -15,7 +15,7 @@ use crate::bytes::Bytes;
 use crate::length::Length;
 use crate::placing::Placing;
 use crate::sink::Sink;
-use crate::spelling::{put_digits, put_end};
+use crate::spelling::{put_decimal, put_end};
 use crate::step::put_literals;
 use sr_base::{ByteList, ClauseId, Form, Lit, NoMemory};
 use sr_desk::{CallError, Desk, Slot};
@@ -33,14 +33,6 @@ fn put_header<O, S: Sink<O>>(sink: &mut S, out: &mut O, vars: u32, count: usize)
     sink.put(out, b" ");
     put_decimal(sink, out, count as u64);
     sink.put(out, b"\n");
-}
-
-fn put_decimal<O, S: Sink<O>>(sink: &mut S, out: &mut O, n: u64)
-    requires can { S.can_put sink.old out.old }
-    requires small { n < 2 ^ 63 }
-    ensures { S.puts sink.old out.old sink.new out.new (decimal n) }
-{
-    put_digits(sink, out, n as i64);
 }
 
 /// The line of a clause.

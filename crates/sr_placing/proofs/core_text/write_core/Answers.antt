@@ -1,7 +1,7 @@
 use Rattle.sr_model.specs.Writing.{written_formula}
 use Rattle.sr_trimming.specs.Citing.{core}
 use Rattle.sr_placing.proofs.Sending.{file_ended}
-use Rattle.sr_placing.proofs.core.write_core.Goals as goal
+use Rattle.sr_placing.proofs.core_text.write_core.Goals as goal
 
 pub returns-clause-sends : goal.returns-clause-sends
 returns-clause-sends g c ss placed = (file_ended c.args.slot.number c.begin.new.self (g.D.Desk.outside c.args.desk.now) c.put_core.new.sink (g.D.Desk.outside c.put_core.new.out) c.end.new.self (g.D.Desk.outside c.end.new.desk)

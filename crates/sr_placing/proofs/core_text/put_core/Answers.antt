@@ -7,7 +7,7 @@ use Rattle.sr_trimming.specs.Placing.{numbers}
 use Rattle.sr_cnf.specs.Written.{IsNumberOf}
 use Rattle.sr_placing.specs.Placing.{PlacingValue}
 use Rattle.sr_placing.proofs.Coring.{core_selected, core_numbers}
-use Rattle.sr_placing.proofs.core.put_core.Goals as goal
+use Rattle.sr_placing.proofs.core_text.put_core.Goals as goal
 
 pub put_clauses-requires-clause-numbers : goal.put_clauses-requires-clause-numbers
 put_clauses-requires-clause-numbers g c =

@@ -2,7 +2,7 @@ use Rattle.std.proofs.Common.{◌++◌, length, take}
 use Rattle.sr_model.specs.Writing.{clause_lines}
 use Rattle.sr_cnf.specs.Written.{header}
 use Rattle.sr_cnf.proofs.WriteLemmas.{chosen}
-use Rattle.sr_placing.proofs.core.put_clauses.Given as goal
+use Rattle.sr_placing.proofs.core_text.put_clauses.Given as goal
 
 -- the header, and the lines of the numbers so far
 abbrev pub invariant-loop-id : goal.invariant-loop-id

@@ -1,7 +1,7 @@
 use Rattle.std.proofs.Common.{◌∙◌, ℕ, List, ap, subst}
 use Rattle.sr_cnf.specs.Written.{header}
 use Rattle.sr_placing.proofs.Coring.{header_put}
-use Rattle.sr_placing.proofs.core.put_header.Goals as goal
+use Rattle.sr_placing.proofs.core_text.put_header.Goals as goal
 
 pub returns : goal.returns
 returns g c =

@@ -1,6 +1,6 @@
 use Rattle.std.proofs.Common.{ℕ, List, subst}
 use Rattle.sr_placing.proofs.Coring.{line_put}
-use Rattle.sr_placing.proofs.core.put_line.Goals as goal
+use Rattle.sr_placing.proofs.core_text.put_line.Goals as goal
 
 pub returns : goal.returns
 returns g c =

@@ -1,7 +1,7 @@
 use Rattle.std.proofs.Common.{ℕ, List, length, subst}
 use Rattle.sr_cnf.specs.Written.{header}
 use Rattle.sr_placing.proofs.Coring.{lines_more}
-use Rattle.sr_placing.proofs.core.put_clauses.Goals as goal
+use Rattle.sr_placing.proofs.core_text.put_clauses.Goals as goal
 
 pub loop-id-preserved : goal.loop-id-preserved
 loop-id-preserved g c = record {
