@@ -22,8 +22,12 @@ use Rattle.sr_trimming.proofs.Written.{absent_append}
 use Rattle.sr_load.specs.Loaded.{LoadedState, all_lines, all_in, alive_in, cited_alive, standing_in, next_of, IsLoaded, TookBack, TookAll, IsChain, Tests}
 use Rattle.sr_back.specs.Citing.{with_cited, CitesAll, is_standing, CitedAreAlive}
 use Rattle.sr_back.specs.Testing.{place_in, steps_in}
-use Rattle.sr_back.specs.Pass.{steps_of, IsWholePass, KeepsProof}
-use Rattle.sr_back.specs.Turning.{IsTail, tail_in, IsSound, IsKept, IsTurn}
+use Rattle.sr_back.specs.Pass.{steps_of, IsWholePass, KeepsProof, IsPass, FailsRightly}
+use Rattle.sr_back.specs.declared.passing.Back.{Back}
+use Rattle.sr_back.specs.declared.passing.Back.TheVariants.{Done as whole, Failed}
+use Rattle.sr_trimming.proofs.Evidence.{never_fails}
+use Rattle.sr_back.specs.Turning.{IsTail, tail_in, IsSound, IsKept, IsTurn, LemmaEnd}
+use Rattle.sr_trimming.specs.Evidence.{FailsAt}
 use Rattle.sr_back.proofs.Standing.{numbered_low, after_append, next_grows, next_kept, place_found, alive_before, alive_before_lemma}
 use Rattle.sr_back.proofs.Indexing.{alive_low, took_lines, took_next, took_standing}
 use Rattle.sr_back.proofs.Alive.{lean_live}
@@ -250,3 +254,13 @@ first_kept st new end hints kept l e c cites is =
 
 pub took_steps : (old new : LoadedState) (id : ℕ) (kept : List Kept) → TookBack old new id → steps_in new kept ≡ steps_in old kept
 took_steps old new id kept b = ap (λ x. steps_of x.clauses (all_lines new) kept) (same_formula old new id b) ∙ ap (λ ds. steps_of old.formula.clauses ds kept) (took_lines old new id b)
+
+-- what shows that a lemma fails shows that not each one passes
+pub fails_rightly : (st : LoadedState) (back : Back) → IsPass st back → FailsRightly st back
+fails_rightly st (whole kept) p = tt
+fails_rightly st (Failed lemma against) p = λ e. never_fails st.formula.clauses st.standing e lemma against p.0 p.1 p.2
+
+pub fails_loaded : (orig new : LoadedState) (id against : ℕ) (kept : List Kept) → IsLoaded orig → KeepsProof orig new → LemmaEnd new id kept (Some against) → IsPass orig (Failed id against)
+fails_loaded orig new id against kept l p f =
+    let lines : all_lines new ≡ orig.standing = p.lines ∙ ap (λ x. orig.standing ++ x) l.none_undone ∙ append-nil orig.standing in
+    (f.0, f.1, subst (λ x. FailsAt x.clauses orig.standing id against f.0 f.1) p.formula (subst (λ ds. FailsAt new.formula.clauses ds id against f.0 f.1) lines f.2))

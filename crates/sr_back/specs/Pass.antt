@@ -3,16 +3,16 @@ use Rattle.std.specs.Prelude.{◌≡◌, List, length, map}
 use Rattle.sr_base.specs.Literal.{Literal}
 use Rattle.sr_model.specs.Meeting.{Group, Step}
 use Rattle.sr_steps.specs.Kept.{Kept, step_of}
-use Rattle.sr_trimming.specs.Loading.{Done}
+use Rattle.sr_trimming.specs.Loading.{Done, at_start}
 use Rattle.sr_trimming.specs.From.{all_loaded, AreFrom}
 use Rattle.sr_trimming.specs.Backward.{AreLinked}
 use Rattle.sr_trimming.specs.Trimmed.{LeanByNeed}
 use Rattle.sr_trimming.specs.CoreFirst.{AreCoreFirst}
 use Rattle.sr_trimming.specs.Written.{CiteKnown}
-use Rattle.sr_trimming.specs.Evidence.{FailsAt}
+use Rattle.sr_trimming.specs.Evidence.{FailsAt, EachPasses}
 use Rattle.sr_load.specs.Loaded.{LoadedState, all_lines}
 use Rattle.sr_back.specs.declared.passing.Back.{Back}
-use Rattle.sr_back.specs.declared.passing.Back.TheVariants.{Done as Kept_all, Failed}
+use Rattle.sr_back.specs.declared.passing.Back.TheVariants.{Done as whole, Failed}
 
 -- the steps of what is kept, with the clauses as they were read
 abbrev pub steps_of : List (List Literal) → List Done → List Kept → List Step
@@ -28,8 +28,13 @@ pub record IsWholePass (f : List (List Literal)) (ds : List Done) (kept : List K
 
 -- a whole pass; or the test of a lemma that a later step cites fails at a clause
 abbrev pub IsPass : LoadedState → Back → Type 0
-IsPass st (Kept_all kept) = IsWholePass st.formula.clauses st.standing kept
+IsPass st (whole kept) = IsWholePass st.formula.clauses st.standing kept
 IsPass st (Failed lemma against) = (groups : List Group) × (tail : List Step) × FailsAt st.formula.clauses st.standing lemma against groups tail
+
+-- where each lemma passes, none fails
+abbrev pub FailsRightly : LoadedState → Back → Type 0
+FailsRightly st (whole kept) = Unit {0}
+FailsRightly st (Failed lemma against) = ¬ EachPasses (at_start st.formula.clauses) st.standing
 
 -- the formula and the lines stay
 pub record KeepsProof (old new : LoadedState) : Type 0 where

@@ -3,7 +3,7 @@ ghost use Rattle.std.specs.Prelude.{◌≡◌, ◌<◌, [], true, false, length,
 ghost use Rattle.sr_load.specs.Loaded.{IsLoaded};
 ghost use Rattle.sr_back.specs.Citing.{KeepsIndex};
 ghost use Rattle.sr_back.specs.Testing.{steps_in};
-ghost use Rattle.sr_back.specs.Pass.{IsPass, KeepsProof};
+ghost use Rattle.sr_back.specs.Pass.{IsPass, FailsRightly, KeepsProof};
 ghost use Rattle.sr_back.specs.Turning.{IsKept, IsTurn, IsOpen, PropagationEnd, LemmaEnd};
 
 use crate::cited::{CitedClauses, cite_all};
@@ -27,6 +27,7 @@ pub enum Back {
 pub fn backward<L: Loaded>(alloc: Global, loaded: &mut L) -> Result<Back, NoMemory>
     requires { IsLoaded (L.state loaded.old) }
     ensures pass { IfOk result (IsPass (L.state loaded.old)) }
+    ensures fails { IfOk result (FailsRightly (L.state loaded.old)) }
     ensures keeps { KeepsProof (L.state loaded.old) (L.state loaded.new) }
     ensures assumed { OnOk result ((L.state loaded.new).assumed ≡ []) }
 {
