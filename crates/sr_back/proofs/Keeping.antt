@@ -84,13 +84,13 @@ chain_from st n p c hints d none e h k =
 
 -- where propagation doesn't show the lemma
 pub left_open : (st new : LoadedState) (id : ℕ) (was kept : List Kept) (c : List Literal) → IsTurn st id (steps_in st was) → st.assumed ≡ [] → HasClauseAt st id c → new ≡ assuming_all st (compl c)
-    → (¬ Refutes (clauses (alive_in new)) new.assumed) → kept ≡ was → IsOpen st new id was kept
+    → (¬ Refutes (clauses (alive_in new)) new.assumed) → kept ≡ was → IsOpen new id was kept
 left_open st new id was kept c t none h e unrefuted same =
     let all : List Literal = st.assumed ++ compl c in
     let is : all ≡ compl c = ap (λ x. x ++ compl c) none in
     let from : SameSet all (assumed t.place) = subst (λ x. SameSet x (assumed t.place)) (sym is) (assumed_from st id t.place c t.is_place h) in
     let no' : ¬ Refutes (clauses (alive_in st)) all = subst (λ x. ¬ Refutes (clauses (alive_in x)) x.assumed) e unrefuted in
-    let o : IsOpen st (with_assumed st all) id was kept = record {
+    let o : IsOpen (with_assumed st all) id was kept = record {
       place = t.place;
       tested = record { is_place = t.is_place; alive = t.before; number = t.number; from = from; cites = t.cites; cited_alive = t.alive; distinct = t.sound.distinct };
       not_rup = λ r. no' (refutes_sees st (assumed t.place) all t.sound.distinct (same_sym all (assumed t.place) from) (subst (λ ps. Refutes (clauses ps) (assumed t.place)) t.before r));
@@ -109,4 +109,4 @@ left_open st new id was kept c t none h e unrefuted same =
       };
       same = same;
     } in
-    subst (λ x. IsOpen st x id was kept) (sym e) o
+    subst (λ x. IsOpen x id was kept) (sym e) o

@@ -215,7 +215,7 @@ witnessed_at st new id steps gs w t rup is tried queued =
 rup_there : (st : LoadedState) (id : ℕ) (p q : Place) → place_in st id ≡ Some p → place_in st id ≡ Some q → (¬ Rup (clauses p.alive) p.stated.clause) → ¬ Rup (clauses q.alive) q.stated.clause
 rup_there st id p q e f n = let two : Some p ≡ Some q = sym e ∙ f in let one : p ≡ q = cc in subst (λ x. ¬ Rup (clauses x.alive) x.stated.clause) one n
 
-pub keeps_witnessed : (st new : LoadedState) (id : ℕ) (was kept : List Kept) (r : Option ℕ) → (o : IsOpen st st id was was) → GroupsEnd st new (steps_in st was) o.turn.place id was kept r → LemmaEnd new id kept r
+pub keeps_witnessed : (st new : LoadedState) (id : ℕ) (was kept : List Kept) (r : Option ℕ) → (o : IsOpen st id was was) → GroupsEnd st new (steps_in st was) o.turn.place id was kept r → LemmaEnd new id kept r
 keeps_witnessed st new id was kept None o (gs, tried, queued, e) =
     let t : IsTurn st id (steps_in st was) = o.turn in
     let rup : ¬ Rup (clauses t.place.alive) t.place.stated.clause = rup_there st id o.place t.place o.tested.is_place t.is_place o.not_rup in

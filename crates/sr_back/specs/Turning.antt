@@ -60,17 +60,18 @@ pub record IsTurn (st : LoadedState) (id : ℕ) (steps : List Step) : Type 0 whe
   pub alive : CitedAreAlive st
   pub known : AreKnownFrom st (id + 1) steps
 
--- the lemma is refuted, and its step kept; or its complements stay assumed, and nothing else changes
-pub record IsOpen (old new : LoadedState) (id : ℕ) (was kept : List Kept) : Type 0 where
+-- propagation doesn't show the lemma: the complements of its literals are assumed, and no step is kept
+pub record IsOpen (st : LoadedState) (id : ℕ) (was kept : List Kept) : Type 0 where
   pub place : Place
-  pub tested : IsTested new id was place
+  pub tested : IsTested st id was place
   pub not_rup : ¬ Rup (clauses place.alive) place.stated.clause
-  pub turn : IsTurn new id (steps_in new was)
+  pub turn : IsTurn st id (steps_in st was)
   pub same : kept ≡ was
 
-abbrev pub PropagationEnd : LoadedState → LoadedState → ℕ → List Kept → List Kept → Bool → Type 0
-PropagationEnd old new id was kept true = IsKept new (steps_in new kept) × (new.assumed ≡ [])
-PropagationEnd old new id was kept false = IsOpen old new id was kept
+-- its step is kept; or it is left open
+abbrev pub PropagationEnd : LoadedState → ℕ → List Kept → List Kept → Bool → Type 0
+PropagationEnd st id was kept true = IsKept st (steps_in st kept) × (st.assumed ≡ [])
+PropagationEnd st id was kept false = IsOpen st id was kept
 
 -- the lemma's step is kept; or its test fails at a clause
 abbrev pub LemmaEnd : LoadedState → ℕ → List Kept → Option ℕ → Type 0

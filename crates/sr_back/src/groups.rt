@@ -27,7 +27,10 @@ pub struct Scratch {
 
 impl Scratch {
     /// Empty lists.
-    pub fn new(alloc: Global) -> Scratch {
+    pub fn new(alloc: Global) -> Scratch
+        ensures lits { result.lits ≡ [] }
+        ensures chain { result.chain ≡ [] }
+    {
         Scratch {
             lits: LitList::new(alloc),
             chain: IdList::new(alloc),

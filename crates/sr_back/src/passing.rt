@@ -115,7 +115,7 @@ fn keep_by_propagation<L: Loaded>(
     requires turn { IsTurn (L.state loaded.old) id (steps_in (L.state loaded.old) steps.old) }
     requires index { KeepsIndex (L.state loaded.old) index.old }
     requires assumed { (L.state loaded.old).assumed ≡ [] }
-    ensures kept { IfOk result (PropagationEnd (L.state loaded.old) (L.state loaded.new) id steps.old steps.new) }
+    ensures kept { IfOk result (PropagationEnd (L.state loaded.new) id steps.old steps.new) }
     ensures index { OnOk result (KeepsIndex (L.state loaded.new) index.new) }
     ensures same { KeepsProof (L.state loaded.old) (L.state loaded.new) }
     ensures lines { (L.state loaded.new).standing ≡ (L.state loaded.old).standing }
@@ -141,7 +141,7 @@ fn keep_by_witness<L: Loaded>(
     scratch: &mut Scratch,
     id: ClauseId,
 ) -> Result<Option<ClauseId>, NoMemory>
-    requires open { IsOpen (L.state loaded.old) (L.state loaded.old) id steps.old steps.old }
+    requires open { IsOpen (L.state loaded.old) id steps.old steps.old }
     requires index { KeepsIndex (L.state loaded.old) index.old }
     ensures kept { IfOk result (LemmaEnd (L.state loaded.new) id steps.new) }
     ensures index { OnOk result (KeepsIndex (L.state loaded.new) index.new) }
