@@ -70,7 +70,7 @@ impl Placing {
 }
 
 /// Parts the numbers by their last uses, of which there are so many.
-fn parted(
+pub fn parted(
     alloc: Global,
     clauses: usize,
     mut uses: Vec<u32>,

@@ -1,5 +1,5 @@
 // Parts of items, and files through a buffer.
-ghost use Rattle.std.specs.Prelude.{◌≡◌, ◌≤◌, ◌<◌, ℕ, All, length, slice_index, IsTrue};
+ghost use Rattle.std.specs.Prelude.{◌≡◌, All, length, IsTrue, IfOk};
 ghost use Rattle.sr_desk.specs.Outside.{can_write};
 ghost use Rattle.sr_lsr.specs.Written.{IsSmall};
 
@@ -7,8 +7,10 @@ use crate::buffer::Buffer;
 use crate::bytes::Bytes;
 use crate::chains::NumberLists;
 use crate::length::Length;
+use crate::placing::{Placing, parted};
 use crate::spelling::put_number;
 use crate::step::{put_deletion, put_hints, put_last, put_pivot_first, put_witness};
+use crate::uses::last_uses;
 use sr_base::{ByteList, Form, Lit, NoMemory};
 use sr_desk::{CallKind, Desk, MemoryDesk};
 use sr_steps::StepTable;
@@ -122,6 +124,27 @@ fn numbers_are_listed_by_their_marks(rt: HostRuntime) -> Result<(), Fail> {
     let lists = NumberLists::of_marks(rt.alloc(), &mut marks, &mut heads)?;
     assert!(rt; lists.list(0) == [2].as_slice());
     assert!(rt; lists.list(1) == [1, 3, 5].as_slice());
+    Ok(())
+}
+
+/// Two steps over five clauses, of which the last isn't cited.
+fn two_steps(alloc: Global) -> Result<Placing, NoMemory>
+    ensures { IfOk result (λ p. length p.drops ≡ 2) }
+{
+    let mut steps = StepTable::new(alloc);
+    steps.push(7, &[6, 3, 4])?;
+    steps.push(6, &[1, 2])?;
+    let uses = last_uses(alloc, 7, &steps)?;
+    parted(alloc, 5, uses, 2)
+}
+
+#[test]
+fn clauses_go_after_their_last_use(rt: HostRuntime) -> Result<(), Fail> {
+    let placing = two_steps(rt.alloc())?;
+    assert!(rt; placing.uncited() == [5].as_slice());
+    assert!(rt; placing.core() == [1, 2, 3, 4].as_slice());
+    assert!(rt; placing.drops(0) == [1, 2].as_slice());
+    assert!(rt; placing.drops(1) == [3, 4, 6].as_slice());
     Ok(())
 }
 
