@@ -1,3 +1,12 @@
+pub mod Buckets
+pub mod Copies
+pub mod Finding
+pub mod Holding
 pub mod Loaded
+pub mod Loader
 pub mod Loading
-pub mod Progress
+pub mod Numbers
+pub mod Records
+pub mod Taking
+pub mod Tied
+pub mod Units

@@ -1,5 +1,5 @@
 -- What contracts see of a loaded proof.
-use Rattle.std.specs.Prelude.{ℕ, ◌≤◌, Bool, true, false, ◌≡◌, Option, Some, None, List, [], ◌∷◌, ◌++◌, All, filter}
+use Rattle.std.specs.Prelude.{ℕ, Bool, true, false, ◌≡◌, ◌≤◌, Option, Some, None, List, [], ◌∷◌, ◌++◌, All, filter}
 use Rattle.sr_base.specs.Literal.{Literal, NoRepeats}
 use Rattle.sr_model.specs.Assignment.{holds_number}
 use Rattle.sr_model.specs.Refutation.{Refutes}

@@ -1,11 +1,23 @@
 //! Loading a proof by lemmas, and taking it back.
 #![tactic(auto)]
 
+mod buckets;
+mod copies;
+mod counting;
+mod deleting;
+mod finding;
+mod hashing;
+mod holding;
 mod loaded;
 mod loader;
 mod progress;
 mod proof;
-mod trace;
+mod records;
+mod room;
+#[cfg(test)]
+mod tests;
+mod timeline;
+mod units;
 
 pub use loaded::Loaded;
 pub use loader::Loader;

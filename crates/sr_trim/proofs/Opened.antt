@@ -1,7 +1,8 @@
 -- From the lines of a proof to its file, and from the formula to both files.
-use Rattle.std.proofs.Common.{◌≡◌, ◌∙◌, inl, inr, ◌-◌, ◌≤◌, ℕ, true, false, [], Ok, Err, refl, sym, ap, subst, arith}
+use Rattle.std.proofs.Common.{◌≡◌, ◌∙◌, ◌↔◌, ◌<◌, ◌≤◌, inl, inr, ◌-◌, ℕ, true, false, List, [], Option, Some, Ok, Err, refl, sym, ap, subst, arith}
 use Rattle.std.specs.Prelude.{nat_le, nat_lt, Result}
 use Rattle.std.proofs.lemmas.Bool.Decides.{nat_tests}
+use Rattle.sr_model.proofs.Soundness.{by_test}
 use Rattle.sr_base.specs.Limits.{LimitValues}
 use Rattle.sr_base.specs.Contents.{Contents, failed}
 use Rattle.sr_base.specs.declared.names.Form.{Form}
@@ -16,7 +17,7 @@ use Rattle.sr_model.specs.BinaryTokens.{spelled_binary, binary_from}
 use Rattle.sr_model.specs.Judging.{cells_of}
 use Rattle.sr_model.specs.Dimacs.{Formula, formula_at}
 use Rattle.sr_model.specs.Dsr.{MaybeLine, line_at, line_in, line_tokens, binary_line_at}
-use Rattle.sr_desk.specs.Outside.{Outside, SlotState, Agrees}
+use Rattle.sr_desk.specs.Outside.{Outside, SlotState, source, Agrees}
 use Rattle.sr_desk.specs.Reader.{Reader}
 use Rattle.sr_desk.specs.Next.{ForContents}
 use Rattle.sr_scan.specs.Left.{tokens_left, is_source, Refuses}
@@ -24,7 +25,7 @@ use Rattle.sr_trimming.specs.Loading.{at_start, StopsAfter, at_conflict, going_o
 use Rattle.sr_load.specs.Loading.{LoaderState}
 use Rattle.sr_emit.specs.declared.outcome.Outcome.{Outcome}
 use Rattle.sr_emit.specs.declared.outcome.Outcome.TheVariants as outcome
-use Rattle.sr_files.specs.Files.{fresh, ReadsFiles, ReadsFront, IsUnread, IsCallFault, outcome_by}
+use Rattle.sr_files.specs.Files.{fresh, ReadsFiles, ReadsFront, GivesFile, IsUnread, IsCallFault, outcome_by}
 use Rattle.sr_files.proofs.Reading.{fresh_text, unread_text, unread_agrees}
 use Rattle.sr_trim.specs.Said.{TrimSaid}
 use Rattle.sr_trim.specs.Deciding.{Decision, stops, loading, EndsLoading, ByPass, ByLines, ByClauses, ByFormula, IsDecided}
@@ -105,6 +106,11 @@ formula_unread lim s new (fault.Limit kind) refuses one = inr (λ c d a b. rw (r
 formula_unread lim s new fault.Source refuses one = inr (λ c d a b. rw (refuses c a) (refl, one))
 formula_unread lim s new fault.NoMemory refuses one = inl refl
 
+-- the formula's slot stays as the proof is read
+pub first_still : (mid new : Outside) → 0 < mid.begun → ReadsFiles mid new → new.slot 0 ≡ mid.slot 0
+first_still mid new one (inl x) = x.before 0 one
+first_still mid new one (inr x) = x.before 0 one
+
 -- a formula that is read, and then the proof
 pub formula_read : (lim : LimitValues) (s : TrimSaid) (f : Formula) (r : Result LoaderState Outcome) (mid new : Outside) → mid.begun ≡ 1
     → ((c : Contents) → Agrees (mid.slot 0) c → ReadsFront {A = Formula} (formula_at lim (spelled lim.bytes c)) (Ok f)) → ReadsFiles mid new → LoadsClauses lim s f new r
@@ -129,3 +135,19 @@ formula_read lim s f r mid new one reads_it slots h = at r h
         )
     at (Err o) (inl e) = inl e
     at (Err o) (inr by) = inr (decides (stops o) by)
+
+-- what a slot gives is the same as long as it is the same, and so are the files
+pub gives_still : (n : ℕ) (name : List ℕ) (a b old new : Outside) → b.file ≡ a.file → new.slot n ≡ old.slot n → GivesFile n name b old → GivesFile n name a new
+gives_still n name a b old new files slots g = record {
+  known = λ bytes e f. rw slots (g.known bytes (λ x. e (ap (λ (y : SlotState). y.ending) slots ∙ x)) (ap (λ (y : List ℕ → Option (List ℕ)). y name) files ∙ f));
+  agrees = λ bytes e f. rw slots (g.agrees bytes (λ x. e (ap (λ (y : SlotState). y.ending) slots ∙ x)) (subst (λ (y : SlotState). source y ≡ Some bytes) slots f));
+}
+
+-- clauses that don't pass the limit
+pub fits_in : {A B : Type 0} (x : A) (y : B) (limit cells : ℕ) → (Ok x ≡ Err y) ↔ (limit < cells) → cells ≤ limit
+fits_in x y limit cells h = by_test (nat_lt limit cells)
+    (λ t. let more : limit < cells = grind (arith, nat_tests) in absurd (not_err (h.1 more)))
+    (λ t. grind (arith, nat_tests))
+  where
+    not_err : ¬ (Ok x ≡ Err y)
+    not_err e = cc

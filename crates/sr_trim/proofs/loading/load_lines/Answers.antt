@@ -84,3 +84,6 @@ returns-in-Ok-None-clause-loads g c =
     standing_none c.args.limits.now (trim_said c.args.words.now) c.args.loader.formula c.args.reader c.lines.lines.reader c.next.new.self.reader (g.D.Desk.outside c.lines.desk) (g.D.Desk.outside c.next.new.desk) c.lines.loader
     (g.D.Desk.outside c.args.desk.now) c.lines.invariant.standing c.lines.invariant.reads c.in-Ok-None.ensures.reads
     (of_ok c.args.limits.now c.lines.lines.reader c.next.new.self.reader (g.D.Desk.outside c.next.new.desk) c.lines.lines.form c.args.words.now.proof_form c.in-Ok-None.field-0 None c.lines.invariant.form c.in-Ok-None.field-0-is c.in-Ok-None.ensures.line)
+
+pub returns-in-Ok-None-clause-only : goal.returns-in-Ok-None-clause-only
+returns-in-Ok-None-clause-only g c = (Reads-trans c.lines.invariant.reads c.in-Ok-None.ensures.reads).only

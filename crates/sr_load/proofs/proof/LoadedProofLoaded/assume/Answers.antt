@@ -1,0 +1,12 @@
+use Rattle.std.proofs.Common.{◌≤◌, refl, sym, subst, length}
+use Rattle.sr_load.specs.Loaded.{LoadedState}
+use Rattle.sr_load.specs.Copies.{AreCopies, CoversFirst}
+use Rattle.sr_load.proofs.Asking.{either, copies_same}
+use Rattle.sr_load.proofs.proof.LoadedProofLoaded.assume.Goals as goal
+
+pub invariant_of-self : goal.invariant_of-self
+invariant_of-self c =
+    let P : LoadedState → Type 0 = λ st. AreCopies st c.self.inside.copies × CoversFirst st c.self.inside.copies c.self.inside.copied × (c.self.inside.copied ≤ length st.cited) in
+    either c.assume.result c.assume.ensures.ok c.assume.ensures.err
+    (λ e. subst P (sym e) (copies_same _ _ c.self.inside.copies refl refl refl c.self.invariant.0, c.self.invariant.1, c.self.invariant.2))
+    (λ e. subst P (sym e) c.self.invariant)
