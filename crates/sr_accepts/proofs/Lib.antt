@@ -1,2 +1,3 @@
 pub mod Replay
+pub mod LinesRead
 pub mod Accepts
