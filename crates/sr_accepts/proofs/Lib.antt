@@ -1,3 +1,4 @@
 pub mod Replay
 pub mod LinesRead
+pub mod Fitting
 pub mod Accepts
