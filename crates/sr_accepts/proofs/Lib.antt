@@ -1,4 +1,5 @@
 pub mod Replay
 pub mod LinesRead
 pub mod Fitting
+pub mod StepsWithin
 pub mod Accepts
