@@ -78,16 +78,20 @@ placed_from_cells known (s ∷ t ∷ later) =
 pub placed_cells : (f : List (List Literal)) (steps : List Step) → items_cells (placed f steps) ≡ steps_cells steps
 placed_cells f steps = deletion_cells (length f) (uncited f steps) (placed_from (numbered_from 1 f) steps) ∙ placed_from_cells (numbered_from 1 f) steps
 
--- the cells of all lemmas
+-- the cells of the lemmas; an empty one joins no clauses
 abbrev pub lemma_cells : List Done → ℕ
 lemma_cells [] = 0
-lemma_cells (joined l ∷ ds) = clause_cells l.clause + lemma_cells ds
+lemma_cells (joined l ∷ ds) = cond (is_empty l.clause) 0 (clause_cells l.clause) + lemma_cells ds
 lemma_cells (removed k ∷ ds) = lemma_cells ds
 lemma_cells (passed ∷ ds) = lemma_cells ds
 
-numbered_cells : (n : ℕ) (ds : List Done) → live_cells (numbered_lemmas n ds) ≡ lemma_cells ds
-numbered_cells n [] = refl
-numbered_cells n (joined l ∷ ds) = omega (arith, cells-cons (n, l.clause) (numbered_lemmas (n + 1) ds), numbered_cells (n + 1) ds)
+one_lemma : (c : List Literal) → cond (is_empty c) 0 (clause_cells c) ≤ clause_cells c
+one_lemma [] = omega arith
+one_lemma (l ∷ c) = omega arith
+
+numbered_cells : (n : ℕ) (ds : List Done) → lemma_cells ds ≤ live_cells (numbered_lemmas n ds)
+numbered_cells n [] = omega arith
+numbered_cells n (joined l ∷ ds) = omega (arith, cells-cons (n, l.clause) (numbered_lemmas (n + 1) ds), numbered_cells (n + 1) ds, one_lemma l.clause)
 numbered_cells n (removed k ∷ ds) = numbered_cells n ds
 numbered_cells n (passed ∷ ds) = numbered_cells n ds
 
@@ -95,7 +99,7 @@ cells_append : (ps qs : Numbered) → live_cells (ps ++ qs) ≡ live_cells ps + 
 cells_append [] qs = omega arith
 cells_append (p ∷ ps) qs = omega (arith, cells-cons p ps, cells-cons p (ps ++ qs), cells_append ps qs)
 
-pub loaded_cells : (f : List (List Literal)) (ds : List Done) → cells_of (clauses (all_loaded f ds)) ≡ cells_of f + lemma_cells ds
+pub loaded_cells : (f : List (List Literal)) (ds : List Done) → cells_of f + lemma_cells ds ≤ cells_of (clauses (all_loaded f ds))
 loaded_cells f ds =
     omega (arith, cells_append (numbered_from 1 f) (numbered_lemmas (length f + 1) ds), numbered_cells (length f + 1) ds, ap cells_of (clauses_numbered 1 f))
 
@@ -132,6 +136,12 @@ skips l find rest (s ∷ t ∷ later) r k a = (
 past : (st : Standing) (l : Lemma) (ds : List Done) (n : ℕ) → st.next < n → place_of st (joined l ∷ ds) n ≡ place_of (after_done st (joined l)) ds n
 past st l ds n h = let t : (st.next == n) ≡ false = grind (arith, nat_tests) in rw t refl
 
+same_emptiness : (c d : List Literal) → length c ≡ length d → is_empty c ≡ is_empty d
+same_emptiness [] [] e = refl
+same_emptiness [] (l ∷ d) e = absurd (omega arith)
+same_emptiness (l ∷ c) [] e = absurd (omega arith)
+same_emptiness (l ∷ c) (k ∷ d) e = refl
+
 steps_fit : (st : Standing) (ds : List Done) (last : ℕ) (steps : List Step) → AreLinked last steps → AreAmong (λ n. place_of st ds n) steps → steps_cells steps ≤ lemma_cells ds
 steps_fit st ds last [] k a = absurd k
 steps_fit st ds last (s ∷ []) k a = let none : step_cells s ≡ 0 = rw k.1 refl in omega arith
@@ -143,7 +153,8 @@ steps_fit st (joined l ∷ ds) last (s ∷ t ∷ later) k a = by_test (st.next =
     let found : Some (record { alive = st.alive; stated = l }) ≡ Some a.0.0 = rw e at a.0.1 in
     let same : record { alive = st.alive; stated = l } ≡ a.0.0 = cc in
     let long : length l.clause ≡ length s.clause = subst (λ (x : Place). length x.stated.clause ≡ length s.clause) (sym same) a.0.2 in
-    let cells : step_cells s ≤ clause_cells l.clause = rw k.1 (omega arith) in
+    let some : is_empty l.clause ≡ false = same_emptiness l.clause s.clause long ∙ k.1 in
+    let cells : step_cells s ≤ cond (is_empty l.clause) 0 (clause_cells l.clause) = rw (k.1, some) (omega arith) in
     let rest = steps_fit (after_done st (joined l)) ds s.id (t ∷ later) k.3
     (skips s.id (λ n. place_of st (joined l ∷ ds) n) (λ n. place_of (after_done st (joined l)) ds n) (t ∷ later) (λ n h. past st l ds n (omega arith)) k.3 a.1) in
     omega arith)
@@ -153,5 +164,5 @@ steps_fit st (joined l ∷ ds) last (s ∷ t ∷ later) k a = by_test (st.next =
     (skips st.next (λ n. place_of st (joined l ∷ ds) n) (λ n. place_of (after_done st (joined l)) ds n) (s ∷ t ∷ later) (past st l ds) (above, k.1, k.2, k.3) a) in
     omega arith)
 
-pub trimmed_fits : (f : List (List Literal)) (ds : List Done) (steps : List Step) → AreFrom f ds steps → AreLinked (length f) steps → cells_of f + steps_cells steps ≤ cells_of (clauses (all_loaded f ds))
-trimmed_fits f ds steps a k = omega (arith, loaded_cells f ds, steps_fit (at_start f) ds (length f) steps k (are_among f ds steps a))
+pub trimmed_fits : (f : List (List Literal)) (ds : List Done) (steps : List Step) → AreFrom f ds steps → AreLinked (length f) steps → steps_cells steps ≤ lemma_cells ds
+trimmed_fits f ds steps a k = steps_fit (at_start f) ds (length f) steps k (are_among f ds steps a)

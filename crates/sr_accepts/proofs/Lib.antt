@@ -2,4 +2,5 @@ pub mod Replay
 pub mod LinesRead
 pub mod Fitting
 pub mod StepsWithin
+pub mod Loads
 pub mod Accepts
