@@ -1,16 +1,14 @@
 -- What `trim` writes, `check` verifies.
-use Rattle.std.proofs.Common.{◌≡◌, ◌∙◌, ℕ, ◌+◌, ◌≤◌, Bool, true, false, List, [], ◌++◌, cond, map, length, refl, sym, ap, subst, arith, append-nil}
-use Rattle.std.specs.Prelude.{nat_lt, All}
+use Rattle.std.proofs.Common.{◌≡◌, ◌∙◌, ◌≤◌, Bool, true, false, List, [], cond, map, length, sym, ap, subst, arith, append-nil}
+use Rattle.std.specs.Prelude.{All}
 use Rattle.sr_base.specs.Limits.{LimitValues}
 use Rattle.sr_base.specs.Contents.{Contents, ended, whole}
 use Rattle.sr_base.specs.declared.names.Form.{Form}
-use Rattle.sr_model.specs.declared.verdict.Verdict.TheVariants.{Verified}
 use Rattle.sr_model.specs.Tokens.{Tokens}
 use Rattle.sr_model.specs.TextTokens.{spelled}
 use Rattle.sr_model.specs.Refutation.{has_empty}
-use Rattle.sr_model.specs.Chain.{clauses}
 use Rattle.sr_model.specs.Meeting.{Step}
-use Rattle.sr_model.specs.Judging.{Item, first_live, judge_from, judge, cells_of}
+use Rattle.sr_model.specs.Judging.{Item, first_live, cells_of}
 use Rattle.sr_model.specs.Dimacs.{Formula, formula_at}
 use Rattle.sr_model.specs.LsrBinary.{item_tokens, SpellItemsIn}
 use Rattle.sr_model.specs.Writing.{written_items}
@@ -29,7 +27,7 @@ use Rattle.sr_emit.specs.declared.outcome.Outcome.{Outcome}
 use Rattle.sr_emit.specs.declared.outcome.Outcome.TheVariants as outcome
 use Rattle.sr_cli.specs.Check.{CellsFit, counts_of, ByProof, ByClauses, ByFormula}
 use Rattle.sr_accepts.proofs.Replay.{met_as, fit_as, some_ends, ends_read, verified_ends, proof_replays}
-use Rattle.sr_accepts.proofs.Fitting.{items_cells, items_fit, placed_cells, trimmed_fits}
+use Rattle.sr_accepts.proofs.Fitting.{items_fit, placed_cells, trimmed_fits}
 use Rattle.sr_accepts.proofs.StepsWithin.{placed_within}
 use Rattle.sr_accepts.proofs.Loads.{IsTrimmedWithin, decided_within}
 use Rattle.sr_accepts.specs.Accepting.{CheckVerifiesTrimmed}

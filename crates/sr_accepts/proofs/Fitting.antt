@@ -1,8 +1,8 @@
 -- The clauses of a trimmed proof fit where those of the formula and of all lemmas do.
-use Rattle.std.proofs.Common.{◌≡◌, ◌∙◌, ℕ, ◌+◌, ◌<◌, ◌≤◌, ◌==◌, Bool, true, false, not, ◌&&◌, List, [], ◌∷◌, ◌++◌, Option, Some, None, cond, map, length, refl, sym, ap, subst, arith}
-use Rattle.std.specs.Prelude.{nat_lt, filter, sum_by}
+use Rattle.std.proofs.Common.{◌≡◌, ◌∙◌, ℕ, ◌+◌, ◌<◌, ◌≤◌, ◌==◌, false, List, [], ◌∷◌, ◌++◌, Option, Some, None, cond, length, refl, sym, ap, subst, arith}
+use Rattle.std.specs.Prelude.{nat_lt}
 use Rattle.std.proofs.lemmas.Bool.Decides.{nat_tests}
-use Rattle.std.proofs.lemmas.List.Sums.{sum_by-cons, sum_by-append}
+use Rattle.std.proofs.lemmas.List.Sums.{sum_by-cons}
 use Rattle.sr_base.specs.Literal.{Literal}
 use Rattle.sr_model.specs.Assignment.{holds_number}
 use Rattle.sr_model.specs.Refutation.{is_empty}
@@ -13,11 +13,11 @@ use Rattle.sr_model.proofs.Soundness.{by_test}
 use Rattle.sr_model.proofs.Judged.{clauses_numbered}
 use Rattle.sr_model.specs.Dsr.{Lemma}
 use Rattle.sr_trimming.specs.Placing.{deletion, last_cited, placed_from, uncited, placed}
-use Rattle.sr_trimming.specs.Loading.{Done, joined, removed, passed, Standing, at_start, after_done, after_all}
-use Rattle.sr_trimming.specs.From.{numbered_lemmas, all_loaded, Place, place_of, IsStepOf, AreFrom}
+use Rattle.sr_trimming.specs.Loading.{Done, joined, removed, passed, Standing, at_start, after_done}
+use Rattle.sr_trimming.specs.From.{numbered_lemmas, all_loaded, Place, place_of, AreFrom}
 use Rattle.sr_trimming.specs.Backward.{AreLinked}
 use Rattle.sr_trimming.proofs.PivotFirst.{order_keeps_limits}
-use Rattle.sr_cli.specs.Check.{CellsFit, grows_past}
+use Rattle.sr_cli.specs.Check.{CellsFit}
 
 -- the cells of the clauses that become live
 abbrev pub step_cells : Step → ℕ

@@ -1,5 +1,5 @@
 -- What is read of a proof by lemmas is within the limits.
-use Rattle.std.proofs.Common.{◌≡◌, ◌∙◌, ℕ, zero, suc, ◌<◌, ◌≤◌, Bool, true, false, not, List, [], ◌∷◌, ◌++◌, map, Option, Some, None, refl, sym, ap, subst, arith}
+use Rattle.std.proofs.Common.{◌≡◌, ◌∙◌, ℕ, zero, suc, ◌<◌, ◌≤◌, Bool, false, not, List, [], ◌∷◌, ◌++◌, map, Option, Some, None, refl, subst, arith}
 use Rattle.std.specs.Prelude.{ℤ, pos, negsuc, nat_le, nat_abs, filter, All, option_map}
 use Rattle.std.proofs.lemmas.Bool.Decides.{nat_tests}
 use Rattle.std.proofs.lemmas.List.Elements.{All-cons}
@@ -16,7 +16,7 @@ use Rattle.sr_model.specs.declared.tokens.Word.TheVariants as word
 use Rattle.sr_model.specs.Substitution.{Witness}
 use Rattle.sr_model.specs.Tokens.{Tokens, finished, stopped, over, lost, next}
 use Rattle.sr_model.specs.Reading.{Read, reads, misspells, passes, fails}
-use Rattle.sr_model.specs.Witnesses.{before, after, pairs, is_odd, twice_of, parts_of, from_variable, first_maps, witness_by, maps_of, clause_of_literals, witness_of_literals, fault_of_maps, fault_of_witness, fault_of_literals}
+use Rattle.sr_model.specs.Witnesses.{before, after, pairs, is_odd, twice_of, parts_of, from_variable, first_maps, witness_by, maps_of, clause_of_literals, fault_of_maps, fault_of_witness, fault_of_literals}
 use Rattle.sr_model.specs.Lsr.{NumbersTo0, by_number, by_word, numbers_after}
 use Rattle.sr_model.specs.Dsr as dsr
 use Rattle.sr_model.specs.Dsr.{Line, lemma_line, MaybeLine, lemma_of, judged_lemma, with_lemma, with_deletion, by_first, line_at, binary_line_at, line_in, SpellLines}

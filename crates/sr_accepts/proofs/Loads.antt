@@ -1,15 +1,13 @@
 -- What is loaded before a proof is trimmed is within the limits.
-use Rattle.std.proofs.Common.{◌≡◌, ◌∙◌, ◌⊎◌, inl, inr, ℕ, ◌+◌, ◌<◌, ◌≤◌, Bool, true, false, not, ◌&&◌, List, [], ◌∷◌, ◌++◌, Option, Some, None, cond, length, refl, sym, ap, subst, arith, append_assoc, append-nil}
+use Rattle.std.proofs.Common.{◌≡◌, ◌∙◌, inl, inr, ℕ, ◌+◌, ◌≤◌, Bool, true, false, ◌&&◌, List, [], ◌∷◌, ◌++◌, Option, Some, None, cond, length, refl, sym, ap, subst, arith, append_assoc, append-nil}
 use Rattle.std.proofs.lemmas.List.{length-map}
 use Rattle.std.specs.Prelude.{nat_lt, is_some}
 use Rattle.std.proofs.lemmas.Bool.Decides.{nat_tests}
-use Rattle.sr_base.specs.Literal.{Literal}
 use Rattle.sr_base.specs.Limits.{LimitValues}
 use Rattle.sr_base.specs.Contents.{Contents}
 use Rattle.sr_base.specs.declared.names.Form.{Form}
-use Rattle.sr_base.specs.declared.names.Which.TheVariants as which
 use Rattle.sr_base.specs.declared.names.LimitKind.{LimitKind}
-use Rattle.sr_base.specs.declared.names.LimitKind.TheVariants.{Ids, Cells, Bytes}
+use Rattle.sr_base.specs.declared.names.LimitKind.TheVariants.{Ids, Cells}
 use Rattle.sr_model.specs.Tokens.{Tokens}
 use Rattle.sr_model.specs.Reading.{Read, reads, misspells, passes, fails}
 use Rattle.sr_model.specs.TextTokens.{spelled}
@@ -20,16 +18,16 @@ use Rattle.sr_model.specs.Judging.{clause_cells, cells_of}
 use Rattle.sr_model.specs.Dimacs.{Formula, formula_at}
 use Rattle.sr_model.specs.Formulas.{SpellsFormula}
 use Rattle.sr_model.specs.Dsr.{Lemma, Line, lemma_line, deletion_line, MaybeLine, line_in, line_tokens, SpellLines}
-use Rattle.sr_model.specs.ReadAgain.{IsLemma, IsLine}
+use Rattle.sr_model.specs.ReadAgain.{IsLine}
 use Rattle.sr_model.proofs.Soundness.{by_test}
 use Rattle.sr_model.proofs.FormulasSpelled.{read_is_spelled}
 use Rattle.sr_trimming.specs.Loading.{Done, joined, removed, passed, Standing, at_start, after_done, after_all, last_of, DeletionDid, Did, AllDid}
 use Rattle.sr_trimming.specs.From.{all_loaded}
-use Rattle.sr_load.specs.Loading.{LoaderState, loaded_in, passes_ids, passes_cells, lemmas_in}
+use Rattle.sr_load.specs.Loading.{LoaderState, passes_ids, passes_cells, lemmas_in}
 use Rattle.sr_emit.specs.declared.outcome.Outcome.{Outcome}
 use Rattle.sr_trim.specs.Said.{TrimSaid}
 use Rattle.sr_trim.specs.Trimming.{IsTrimming, lsr_text, core_text}
-use Rattle.sr_trim.specs.Deciding.{Decision, stops, trims, by_length, ByPass, loading, limit_of, LinesFit, AtStop, ByLine, EndsLoading, ByLines, ByProof, ByClauses, ByFormula, IsDecided}
+use Rattle.sr_trim.specs.Deciding.{Decision, stops, trims, by_length, ByPass, loading, limit_of, LinesFit, AtStop, ByLine, EndsLoading, ByLines, ByProof, ByFormula, IsDecided}
 use Rattle.sr_accepts.proofs.LinesRead.{read_line_within}
 use Rattle.sr_accepts.proofs.Fitting.{lemma_cells, loaded_cells}
 use Rattle.sr_accepts.proofs.StepsWithin.{AreLemmas}

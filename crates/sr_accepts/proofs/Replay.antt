@@ -1,18 +1,16 @@
 -- A proof that is read again is judged item by item as it was written.
-use Rattle.std.proofs.Common.{◌≡◌, ℕ, Bool, true, false, not, List, [], ◌∷◌, Option, Some, None, cond, map, refl, sym, ◌∙◌, ap, subst}
+use Rattle.std.proofs.Common.{◌≡◌, ℕ, Bool, true, false, List, [], ◌∷◌, Some, None, cond, map, refl, sym, ◌∙◌, ap, subst}
 use Rattle.sr_base.specs.Literal.{Literal}
 use Rattle.sr_base.specs.Limits.{LimitValues}
 use Rattle.sr_base.specs.declared.names.Form.{Form}
 use Rattle.sr_base.specs.declared.names.Form.TheVariants.{Text, Binary}
 use Rattle.sr_base.specs.declared.names.Which.TheVariants as which
-use Rattle.sr_base.specs.declared.names.LimitKind.TheVariants.{Cells}
-use Rattle.sr_model.specs.declared.verdict.Verdict.{Verdict}
 use Rattle.sr_model.specs.declared.verdict.Verdict.TheVariants.{Going, Verified}
 use Rattle.sr_model.specs.Tokens.{Tokens}
 use Rattle.sr_model.specs.Reading.{Read, reads, misspells, passes, fails}
-use Rattle.sr_model.specs.Refutation.{is_empty, has_empty}
-use Rattle.sr_model.specs.Meeting.{Step, Meeting, met, unmet}
-use Rattle.sr_model.specs.Judging.{Item, stepped, dropped, Live, first_live, live_with, live_after, item_meets, ends_proof, verdict_of, judge_from, judge}
+use Rattle.sr_model.specs.Refutation.{has_empty}
+use Rattle.sr_model.specs.Meeting.{met}
+use Rattle.sr_model.specs.Judging.{Item, stepped, dropped, Live, first_live, live_with, live_after, item_meets, ends_proof, verdict_of, judge_from}
 use Rattle.sr_model.specs.Lsr.{MaybeItem}
 use Rattle.sr_model.specs.LsrBinary.{item_in, SpellItemsIn}
 use Rattle.sr_model.specs.ReadAgain.{read_as}

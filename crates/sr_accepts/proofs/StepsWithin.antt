@@ -1,5 +1,5 @@
 -- What is written of a trimmed proof is within the limits, where the formula and the lemmas are.
-use Rattle.std.proofs.Common.{◌≡◌, ◌∙◌, ◌⊎◌, inl, inr, ℕ, zero, suc, ◌+◌, ◌<◌, ◌≤◌, ◌==◌, Bool, true, false, not, ◌||◌, ◌&&◌, List, [], ◌∷◌, ◌++◌, Option, Some, None, cond, length, refl, sym, ap, subst, arith}
+use Rattle.std.proofs.Common.{◌≡◌, ◌∙◌, ◌⊎◌, inl, inr, ℕ, ◌+◌, ◌<◌, ◌≤◌, ◌==◌, Bool, true, not, ◌&&◌, List, [], ◌∷◌, ◌++◌, Option, Some, None, length, refl, sym, subst, arith}
 use Rattle.std.specs.Prelude.{filter, All}
 use Rattle.std.proofs.lemmas.Bool.Decides.{nat_tests}
 use Rattle.std.proofs.lemmas.List.Elements.{All-cons}
@@ -10,14 +10,14 @@ use Rattle.sr_model.specs.Refutation.{is_empty}
 use Rattle.sr_model.specs.Substitution.{Substitution, Witness, substitution}
 use Rattle.sr_model.specs.Chain.{Numbered}
 use Rattle.sr_model.specs.Meeting.{Group, Step}
-use Rattle.sr_model.specs.Judging.{Item, stepped, dropped, numbered_from, without, Live, first_live, live_with}
-use Rattle.sr_model.specs.Dsr.{Lemma, lemma_line}
-use Rattle.sr_model.specs.ReadAgain.{IsLiteral, IsMap, IsNumber, IsClause, IsWitness, IsGroup, IsStep, IsItem, IsLemma}
+use Rattle.sr_model.specs.Judging.{Item, stepped, dropped, numbered_from, Live, first_live, live_with}
+use Rattle.sr_model.specs.Dsr.{Lemma}
+use Rattle.sr_model.specs.ReadAgain.{IsNumber, IsClause, IsWitness, IsStep, IsItem, IsLemma}
 use Rattle.sr_model.proofs.Soundness.{by_test}
-use Rattle.sr_trimming.specs.Reordered.{SameFirst, IsRewritten}
+use Rattle.sr_trimming.specs.Reordered.{SameFirst}
 use Rattle.sr_trimming.specs.Citing.{groups_cite, cites, is_cited}
 use Rattle.sr_trimming.specs.Placing.{numbers, deletion, last_cited, placed_from, uncited, placed}
-use Rattle.sr_trimming.specs.Lean.{AreLeanGroups, needs_group, IsLeanWith, IsLean}
+use Rattle.sr_trimming.specs.Lean.{AreLeanGroups, needs_group, IsLeanWith}
 use Rattle.sr_trimming.specs.Trimmed.{AreLean}
 use Rattle.sr_trimming.specs.Loading.{Done, joined, removed, passed, Standing, at_start, after_done, after_all}
 use Rattle.sr_trimming.specs.From.{Place, place_of, CitesAlive, witness_of, IsStepOf, IsLast, AreFrom}
