@@ -3,4 +3,5 @@ pub mod LinesRead
 pub mod Fitting
 pub mod StepsWithin
 pub mod Loads
+pub mod Counting
 pub mod Accepts

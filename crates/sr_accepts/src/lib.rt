@@ -1,6 +1,6 @@
-//! What `trim` writes, `check` verifies: a law of the definitions of the two commands.
+//! What `trim` writes, `check` verifies: a law over the definitions of the two commands.
 #![tactic(auto)]
 
 mod laws;
 
-pub use laws::check_verifies_trimmed;
+pub use laws::trimmed_is_accepted;
