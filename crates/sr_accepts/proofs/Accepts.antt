@@ -1,6 +1,6 @@
 -- What `trim` writes, `check` verifies.
-use Rattle.std.proofs.Common.{◌≡◌, ◌∙◌, ℕ, ◌-◌, ◌^◌, ◌≤◌, Bool, true, false, List, [], cond, map, length, sym, ap, subst, arith, append-nil}
-use Rattle.std.specs.Prelude.{All}
+use Rattle.std.proofs.Common.{◌≡◌, ◌∙◌, ℕ, ◌≤◌, Bool, true, false, List, [], cond, map, length, sym, ap, subst, arith, append-nil}
+use Rattle.std.specs.Prelude.{All, is_some}
 use Rattle.std.proofs.Math.Nat.{min-eq_left}
 use Rattle.sr_base.specs.Limits.{LimitValues}
 use Rattle.sr_base.specs.Contents.{Contents, ended, whole}
@@ -16,17 +16,17 @@ use Rattle.sr_model.specs.Writing.{written_items}
 use Rattle.sr_model.specs.ReadAgain.{AreLimits, IsItem, read_as}
 use Rattle.sr_model.proofs.Soundness.{by_test}
 use Rattle.sr_model.proofs.Judged.{clauses_numbered}
-use Rattle.sr_model.proofs.Taken.{judge_going}
 use Rattle.sr_model.proofs.FilesAgain.{item_files_again}
 use Rattle.sr_trimming.specs.Placing.{placed}
 use Rattle.sr_trimming.specs.Loading.{Done}
-use Rattle.sr_trimming.specs.Backward.{AreMet}
 use Rattle.sr_trim.specs.Said.{TrimSaid}
+use Rattle.sr_trim.specs.Deciding.{trims}
 use Rattle.sr_trim.specs.Trimming.{lsr_text}
 use Rattle.sr_emit.specs.declared.counts.Counts.{Counts}
 use Rattle.sr_emit.specs.declared.outcome.Outcome.{Outcome}
 use Rattle.sr_emit.specs.declared.outcome.Outcome.TheVariants as outcome
-use Rattle.sr_cli.specs.Check.{CellsFit, counted, counts_of, ByProof, ByClauses, ByFormula}
+use Rattle.sr_cli.specs.Words.{Said}
+use Rattle.sr_cli.specs.Check.{IsFirst, CellsFit, counted, counts_of, ByProof, ByClauses, ByFormula}
 use Rattle.sr_accepts.proofs.Replay.{met_as, fit_as, ends_read, placed_ends_last, proof_replays}
 use Rattle.sr_accepts.proofs.Fitting.{items_fit, placed_cells, trimmed_fits}
 use Rattle.sr_accepts.proofs.Counting.{steps_counted, hints_counted, steps_few}
@@ -82,9 +82,10 @@ file_accepted lim s formula f ds steps strict o k a w h p =
       same_hints = λ n. ap (λ x. x.hints) r.1 ∙ ap counted (hints_counted s.lsr_form f.clauses steps);
     }
 
-pub accepted : TrimmedIsAccepted
-accepted lim s formula proof f ds steps begun said o k checked a d some form e =
-    let w = decided_within lim s formula proof f ds steps begun d in
+pub within_accepted : (lim : LimitValues) (s : TrimSaid) (formula : Contents) (f : Formula) (ds : List Done) (steps : List Step) (said : Said) (o : Outcome) (k : Counts) (checked : ℕ)
+    → AreLimits lim → IsTrimmedWithin lim s formula f ds steps → is_some s.lsr ≡ true → said.proof_form ≡ s.lsr_form
+    → IsFirst lim said formula (whole (lsr_text s.lsr_form f.clauses steps)) o k checked → IsAccepted f.clauses ds steps o k
+within_accepted lim s formula f ds steps said o k checked a w some form e =
     let file : Contents = whole (lsr_text s.lsr_form f.clauses steps) in
     let first : ByFormula lim s.lsr_form said.strict file (formula_at lim (spelled lim.bytes formula)) o k checked =
     subst (λ x. ByFormula lim x said.strict file (formula_at lim (spelled lim.bytes formula)) o k checked) form e in
@@ -96,3 +97,7 @@ accepted lim s formula proof f ds steps begun said o k checked a d some form e =
     record { verified = at_once.0; same_steps = λ n. (let bad : true ≡ false = sym t ∙ n in absurd cc); same_hints = λ n. (let bad : true ≡ false = sym t ∙ n in absurd cc) })
     (λ t. let read : ByProof lim s.lsr_form said.strict f.clauses (item_tokens s.lsr_form lim.bytes file) o k × (checked ≡ 2) = rw t at rest in
     file_accepted lim s formula f ds steps said.strict o k a w (w.text some) read.0)
+
+pub accepted : TrimmedIsAccepted
+accepted lim s formula proof f ds steps begun said o k checked a d some form e =
+    within_accepted lim s formula f ds steps said o k checked a (decided_within lim s formula proof (trims f ds steps) begun d) some form e

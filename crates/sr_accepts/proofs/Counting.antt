@@ -1,5 +1,5 @@
 -- A trimmed proof has as many steps and hints as were counted.
-use Rattle.std.proofs.Common.{◌≡◌, ◌∙◌, ℕ, ◌+◌, ◌-◌, ◌^◌, ◌<◌, ◌≤◌, min, List, [], ◌∷◌, ◌++◌, map, length, refl, sym, ap, arith}
+use Rattle.std.proofs.Common.{◌≡◌, ◌∙◌, ℕ, ◌+◌, ◌≤◌, List, [], ◌∷◌, ◌++◌, map, length, refl, sym, arith}
 use Rattle.std.specs.Prelude.{sum_by}
 use Rattle.std.proofs.lemmas.List.Sums.{sum_by-cons}
 use Rattle.sr_base.specs.Literal.{Literal}
@@ -10,7 +10,7 @@ use Rattle.sr_model.specs.Meeting.{Step}
 use Rattle.sr_model.specs.Judging.{Item, stepped, dropped, numbered_from}
 use Rattle.sr_model.specs.ReadAgain.{read_as}
 use Rattle.sr_trimming.specs.Placing.{deletion, last_cited, placed_from, uncited, placed}
-use Rattle.sr_trimming.specs.Loading.{Done, Standing, at_start, after_all}
+use Rattle.sr_trimming.specs.Loading.{Done, at_start, after_all}
 use Rattle.sr_trimming.specs.From.{AreFrom}
 use Rattle.sr_trimming.specs.Backward.{AreLinked}
 use Rattle.sr_trim.specs.Trimming.{step_hints}

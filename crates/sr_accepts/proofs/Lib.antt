@@ -5,3 +5,4 @@ pub mod StepsWithin
 pub mod Loads
 pub mod Counting
 pub mod Accepts
+pub mod Running

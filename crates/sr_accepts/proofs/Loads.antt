@@ -1,5 +1,5 @@
 -- What is loaded before a proof is trimmed is within the limits.
-use Rattle.std.proofs.Common.{◌≡◌, ◌∙◌, inl, inr, ℕ, ◌+◌, ◌≤◌, Bool, true, false, ◌&&◌, List, [], ◌∷◌, ◌++◌, Option, Some, None, cond, length, refl, sym, ap, subst, arith, append_assoc, append-nil}
+use Rattle.std.proofs.Common.{◌≡◌, ◌≢◌, ◌∙◌, inl, inr, ℕ, ◌+◌, ◌≤◌, Bool, true, false, ◌&&◌, List, [], ◌∷◌, ◌++◌, Option, Some, None, cond, length, refl, sym, ap, subst, arith, append_assoc, append-nil}
 use Rattle.std.proofs.lemmas.List.{length-map}
 use Rattle.std.specs.Prelude.{nat_lt, is_some}
 use Rattle.std.proofs.lemmas.Bool.Decides.{nat_tests}
@@ -25,6 +25,7 @@ use Rattle.sr_trimming.specs.Loading.{Done, joined, removed, passed, Standing, a
 use Rattle.sr_trimming.specs.From.{all_loaded}
 use Rattle.sr_load.specs.Loading.{LoaderState, passes_ids, passes_cells, lemmas_in}
 use Rattle.sr_emit.specs.declared.outcome.Outcome.{Outcome}
+use Rattle.sr_emit.specs.declared.outcome.Outcome.TheVariants as outcome
 use Rattle.sr_trim.specs.Said.{TrimSaid}
 use Rattle.sr_trim.specs.Trimming.{IsTrimming, lsr_text, core_text}
 use Rattle.sr_trim.specs.Deciding.{Decision, stops, trims, by_length, ByPass, loading, limit_of, LinesFit, AtStop, ByLine, EndsLoading, ByLines, ByProof, ByFormula, IsDecided}
@@ -159,12 +160,13 @@ pub record IsTrimmedWithin (lim : LimitValues) (s : TrimSaid) (formula : Content
   pub cells : cells_of f.clauses + lemma_cells ds ≤ lim.cells
   pub text : is_some s.lsr ≡ true → length (lsr_text s.lsr_form f.clauses steps) ≤ lim.bytes
 
-abbrev IsWithin : LimitValues → TrimSaid → Contents → Decision → Type 0
-IsWithin lim s formula (stops o) = Unit {0}
+-- so it is where `trim` comes to steps; else it doesn't answer that a proof is verified
+abbrev pub IsWithin : LimitValues → TrimSaid → Contents → Decision → Type 0
+IsWithin lim s formula (stops o) = o ≢ outcome.Verified
 IsWithin lim s formula (trims f ds steps) = IsTrimmedWithin lim s formula f ds steps
 
-stopped_within : (lim : LimitValues) (s : TrimSaid) (formula : Contents) (d : Decision) (o : Outcome) → d ≡ stops o → IsWithin lim s formula d
-stopped_within lim s formula d o e = subst (IsWithin lim s formula) (sym e) tt
+stopped_within : (lim : LimitValues) (s : TrimSaid) (formula : Contents) (d : Decision) (o : Outcome) → d ≡ stops o → o ≢ outcome.Verified → IsWithin lim s formula d
+stopped_within lim s formula d o e n = subst (IsWithin lim s formula) (sym e) n
 
 -- the formula that was read
 record IsRead (lim : LimitValues) (formula : Contents) (f : Formula) : Type 0 where
@@ -175,9 +177,9 @@ record IsRead (lim : LimitValues) (formula : Contents) (f : Formula) : Type 0 wh
 length_within : (lim : LimitValues) (s : TrimSaid) (formula : Contents) (f : Formula) (ds : List Done) (steps : List Step) → IsRead lim formula f → AreWithin lim f ds → IsTrimming f.clauses ds steps
     → IsWithin lim s formula (by_length lim s f ds steps)
 length_within lim s formula f ds steps r w t = by_test (is_some s.lsr && nat_lt lim.bytes (length (lsr_text s.lsr_form f.clauses steps)))
-    (λ e. rw e tt)
+    (λ e. rw e (λ q. cc))
     (λ e. by_test (is_some s.core && nat_lt lim.bytes (length (core_text f steps)))
-    (λ u. rw (e, u) tt)
+    (λ u. rw (e, u) (λ q. cc))
     (λ u. rw (e, u) (record {
       rest = r.rest;
       read = r.read;
@@ -193,16 +195,16 @@ length_within lim s formula f ds steps r w t = by_test (is_some s.lsr && nat_lt 
     small i e = grind (arith, nat_tests)
 
 pass_within : (lim : LimitValues) (s : TrimSaid) (formula : Contents) (f : Formula) (ds : List Done) (d : Decision) → IsRead lim formula f → AreWithin lim f ds → ByPass lim s f ds d → IsWithin lim s formula d
-pass_within lim s formula f ds d r w (inl j) = stopped_within lim s formula d _ j.is
+pass_within lim s formula f ds d r w (inl j) = stopped_within lim s formula d _ j.is (λ q. cc)
 pass_within lim s formula f ds d r w (inr p) = subst (IsWithin lim s formula) (sym p.is) (length_within lim s formula f ds p.steps r w p.trimming)
 
 stop_within : (lim : LimitValues) (s : TrimSaid) (formula : Contents) (f : Formula) (ds : List Done) (d : Decision) → IsRead lim formula f → AreWithin lim f ds → AtStop lim s f ds d → IsWithin lim s formula d
 stop_within lim s formula f ds d r w (inl p) = pass_within lim s formula f ds d r w p.1
-stop_within lim s formula f ds d r w (inr p) = stopped_within lim s formula d _ p.1
+stop_within lim s formula f ds d r w (inr p) = stopped_within lim s formula d _ p.1 (λ q. cc)
 
 last_within : (lim : LimitValues) (s : TrimSaid) (formula : Contents) (f : Formula) (ds : List Done) (d : Decision) (l : Line) (o : Option LimitKind) → IsRead lim formula f → AreWithin lim f ds → IsLine lim.vars l
     → limit_of (loading lim s f ds) l ≡ o → ByLine lim s f ds l o d → IsWithin lim s formula d
-last_within lim s formula f ds d l (Some kind) r w i e b = stopped_within lim s formula d _ b
+last_within lim s formula f ds d l (Some kind) r w i e b = stopped_within lim s formula d _ b (λ q. cc)
 last_within lim s formula f ds d l None r w i e b =
     stop_within lim s formula f (ds ++ b.0 ∷ []) d r (line_within lim s f ds l b.0 s.keep (after_all (at_start f.clauses) ds).alive w i e b.1) b.2
 
@@ -210,10 +212,10 @@ ends_within : (lim : LimitValues) (s : TrimSaid) (formula : Contents) (f : Formu
     → line_in s.proof_form lim ts ≡ n → EndsLoading lim s f ds n d → IsWithin lim s formula d
 ends_within lim s formula f ds d ts (reads (Some l) rest) r w e b =
     last_within lim s formula f ds d l (limit_of (loading lim s f ds) l) r w (read_line_within s.proof_form lim ts rest l e) refl b
-ends_within lim s formula f ds d ts (reads None rest) r w e b = stopped_within lim s formula d _ b
-ends_within lim s formula f ds d ts (misspells kind place) r w e b = stopped_within lim s formula d _ b
-ends_within lim s formula f ds d ts (passes kind) r w e b = stopped_within lim s formula d _ b
-ends_within lim s formula f ds d ts fails r w e b = stopped_within lim s formula d _ b
+ends_within lim s formula f ds d ts (reads None rest) r w e b = stopped_within lim s formula d _ b (λ q. cc)
+ends_within lim s formula f ds d ts (misspells kind place) r w e b = stopped_within lim s formula d _ b (λ q. cc)
+ends_within lim s formula f ds d ts (passes kind) r w e b = stopped_within lim s formula d _ b (λ q. cc)
+ends_within lim s formula f ds d ts fails r w e b = stopped_within lim s formula d _ b (λ q. cc)
 
 proof_within : (lim : LimitValues) (s : TrimSaid) (formula : Contents) (f : Formula) (proof : Tokens) (d : Decision) (begun : ℕ) → IsRead lim formula f → AreWithin lim f []
     → ByProof lim s f proof d begun → IsWithin lim s formula d
@@ -234,14 +236,12 @@ clauses_within lim formula f r =
 formula_within : (lim : LimitValues) (s : TrimSaid) (formula : Contents) (proof : Tokens) (d : Decision) (begun : ℕ) (n : Read Formula) → formula_at lim (spelled lim.bytes formula) ≡ n
     → ByFormula lim s proof n d begun → IsWithin lim s formula d
 formula_within lim s formula proof d begun (reads f rest) e b = by_test (nat_lt lim.cells (cells_of f.clauses))
-    (λ t. let stop : (d ≡ stops _) × (begun ≡ 1) = rw t at b in stopped_within lim s formula d _ stop.0)
+    (λ t. let stop : (d ≡ stops _) × (begun ≡ 1) = rw t at b in stopped_within lim s formula d _ stop.0 (λ q. cc))
     (λ t. let read : IsRead lim formula f = record { rest = rest; read = e; fits = t } in
     proof_within lim s formula f proof d begun read (clauses_within lim formula f read) (rw t at b))
-formula_within lim s formula proof d begun (misspells kind place) e b = stopped_within lim s formula d _ b.0
-formula_within lim s formula proof d begun (passes kind) e b = stopped_within lim s formula d _ b.0
-formula_within lim s formula proof d begun fails e b = stopped_within lim s formula d _ b.0
+formula_within lim s formula proof d begun (misspells kind place) e b = stopped_within lim s formula d _ b.0 (λ q. cc)
+formula_within lim s formula proof d begun (passes kind) e b = stopped_within lim s formula d _ b.0 (λ q. cc)
+formula_within lim s formula proof d begun fails e b = stopped_within lim s formula d _ b.0 (λ q. cc)
 
-pub decided_within : (lim : LimitValues) (s : TrimSaid) (formula proof : Contents) (f : Formula) (ds : List Done) (steps : List Step) (begun : ℕ)
-    → IsDecided lim s formula proof (trims f ds steps) begun → IsTrimmedWithin lim s formula f ds steps
-decided_within lim s formula proof f ds steps begun b =
-    formula_within lim s formula (line_tokens s.proof_form lim.bytes proof) (trims f ds steps) begun (formula_at lim (spelled lim.bytes formula)) refl b
+pub decided_within : (lim : LimitValues) (s : TrimSaid) (formula proof : Contents) (d : Decision) (begun : ℕ) → IsDecided lim s formula proof d begun → IsWithin lim s formula d
+decided_within lim s formula proof d begun b = formula_within lim s formula (line_tokens s.proof_form lim.bytes proof) d begun (formula_at lim (spelled lim.bytes formula)) refl b

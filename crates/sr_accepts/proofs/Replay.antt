@@ -5,13 +5,13 @@ use Rattle.sr_base.specs.Limits.{LimitValues}
 use Rattle.sr_base.specs.declared.names.Form.{Form}
 use Rattle.sr_base.specs.declared.names.Form.TheVariants.{Text, Binary}
 use Rattle.sr_base.specs.declared.names.Which.TheVariants as which
-use Rattle.sr_model.specs.declared.verdict.Verdict.TheVariants.{Going, Verified}
+use Rattle.sr_model.specs.declared.verdict.Verdict.TheVariants.{Going}
 use Rattle.sr_model.specs.Tokens.{Tokens}
 use Rattle.sr_model.specs.Reading.{Read, reads, misspells, passes, fails}
 use Rattle.sr_model.specs.Refutation.{has_empty}
 use Rattle.sr_model.specs.Chain.{Numbered}
 use Rattle.sr_model.specs.Meeting.{Step, met}
-use Rattle.sr_model.specs.Judging.{Item, stepped, dropped, numbered_from, Live, first_live, live_with, live_after, item_meets, ends_proof, verdict_of, judge_from}
+use Rattle.sr_model.specs.Judging.{Item, stepped, dropped, numbered_from, Live, first_live, live_with, live_after, item_meets, ends_proof, judge_from}
 use Rattle.sr_model.specs.Lsr.{MaybeItem}
 use Rattle.sr_model.specs.LsrBinary.{item_in, SpellItemsIn}
 use Rattle.sr_model.specs.ReadAgain.{read_as}

@@ -1,6 +1,6 @@
-//! What `trim` writes, `check` verifies: a law over the definitions of the two commands.
+//! What `trim` writes, `check` verifies: laws over the definitions of the two commands, and over two runs.
 #![tactic(auto)]
 
 mod laws;
 
-pub use laws::trimmed_is_accepted;
+pub use laws::{trim_then_check, trimmed_is_accepted};
