@@ -11,3 +11,4 @@ pub mod Turns
 pub mod Lines
 pub mod Keeping
 pub mod Witnessed
+pub mod EmptyFormula

@@ -7,5 +7,7 @@ mod groups;
 mod passing;
 mod queue;
 mod testing;
+#[cfg(test)]
+mod tests;
 
 pub use passing::{Back, backward};
