@@ -180,7 +180,10 @@ fn limits(rt: HostRuntime) -> Result<(), Fail> {
     assert_eq!(rt; limited(rt.alloc(), 9, 23, &[2])?, cells);
     assert_eq!(rt; limited(rt.alloc(), 9, 28, &[2])?, cells);
     assert_eq!(rt; limited(rt.alloc(), 9, 29, &[2])?, Ok(Progress::Conflict));
-    assert_eq!(rt; limited(rt.alloc(), 9, 24, &[])?, Ok(Progress::EmptyLemma(5)));
+    assert_eq!(rt;
+        limited(rt.alloc(), 9, 24, &[])?,
+        Ok(Progress::EmptyLemma(5))
+    );
     assert_eq!(rt; limited(rt.alloc(), 5, 24, &[2])?, ids);
     assert_eq!(rt; limited(rt.alloc(), 5, 29, &[])?, ids);
     assert_eq!(rt; limited(rt.alloc(), 6, 29, &[2])?, Ok(Progress::Conflict));

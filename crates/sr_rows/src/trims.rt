@@ -23,7 +23,7 @@ struct Trim<'a> {
     report: &'a str,
 }
 
-fn trim<'a>(formula: &'a str, proof: &'a str, status: u8, report: &'a str) -> Trim<'a> {
+fn make_case<'a>(formula: &'a str, proof: &'a str, status: u8, report: &'a str) -> Trim<'a> {
     Trim {
         formula,
         proof,
@@ -114,8 +114,8 @@ fn writes(alloc: Global, case: &Trim<'_>, lsr: &str, core: &str) -> Result<(), F
 #[test]
 fn formulas_that_conflict_alone_need_no_proof(rt: HostRuntime) -> Result<(), Fail> {
     let alloc = rt.alloc();
-    let empty = trim("p cnf 0 1\n0\n", "", 0, VERIFIED);
-    let units = trim(
+    let empty = make_case("p cnf 0 1\n0\n", "", 0, VERIFIED);
+    let units = make_case(
         "p cnf 1 2\n1 0\n-1 0\n",
         "",
         0,
@@ -135,13 +135,13 @@ fn lemmas_by_propagation_are_trimmed(rt: HostRuntime) -> Result<(), Fail> {
     let alloc = rt.alloc();
     let counted =
         "c clauses 4\nc core 4\nc lemmas 1\nc steps 2\nc hints 5\nc passed 0\ns VERIFIED UNSAT\n";
-    let uncited = trim(
+    let uncited = make_case(
         "p cnf 4 5\n1 2 0\n-1 2 0\n1 -2 0\n-1 -2 0\n3 4 0\n",
         "-4 0\n2 0\n",
         0,
         VERIFIED,
     );
-    let twice = trim(
+    let twice = make_case(
         "p cnf 2 5\n1 2 0\n-1 2 0\n1 -2 0\n-1 -2 0\n2 1 0\n",
         "d 1 2 0\n2 0\n",
         0,
@@ -150,9 +150,9 @@ fn lemmas_by_propagation_are_trimmed(rt: HostRuntime) -> Result<(), Fail> {
     all_trim(
         alloc,
         &[
-            with(trim(FOUR, "2 0\n0\n", 0, counted), &["--stats"]),
-            trim(FOUR, "2 2 0\n", 0, VERIFIED),
-            trim(FOUR, "3 3 0\n2 0\n", 0, VERIFIED),
+            with(make_case(FOUR, "2 0\n0\n", 0, counted), &["--stats"]),
+            make_case(FOUR, "2 2 0\n", 0, VERIFIED),
+            make_case(FOUR, "3 3 0\n2 0\n", 0, VERIFIED),
             uncited,
             twice,
         ],
@@ -169,8 +169,8 @@ fn lemmas_by_propagation_are_trimmed(rt: HostRuntime) -> Result<(), Fail> {
 #[test]
 fn lemmas_with_witnesses_are_trimmed(rt: HostRuntime) -> Result<(), Fail> {
     let alloc = rt.alloc();
-    let six = trim(SIX, SIX_LEMMAS, 0, VERIFIED);
-    let more = trim(SIX, "-1 -1 2 -1 3 4 4 3 0\n5 0\nzzz\n", 0, VERIFIED);
+    let six = make_case(SIX, SIX_LEMMAS, 0, VERIFIED);
+    let more = make_case(SIX, "-1 -1 2 -1 3 4 4 3 0\n5 0\nzzz\n", 0, VERIFIED);
     all_trim(alloc, &[six, more])?;
     writes(
         alloc,
@@ -185,10 +185,10 @@ fn lemmas_that_fail_are_named(rt: HostRuntime) -> Result<(), Fail> {
     all_trim(
         rt.alloc(),
         &[
-            trim(FOUR, "d 1 2 0\n2 0\n", 1, "s REJECTED lemma 5 against 3\n"),
-            trim("p cnf 1 1\n1 0\n", "0\n", 1, "s REJECTED lemma 2 empty\n"),
-            trim("p cnf 1 1\n1 0\n", "", 1, "s NO EMPTY CLAUSE\n"),
-            trim(
+            make_case(FOUR, "d 1 2 0\n2 0\n", 1, "s REJECTED lemma 5 against 3\n"),
+            make_case("p cnf 1 1\n1 0\n", "0\n", 1, "s REJECTED lemma 2 empty\n"),
+            make_case("p cnf 1 1\n1 0\n", "", 1, "s NO EMPTY CLAUSE\n"),
+            make_case(
                 "p cnf 3 5\n1 2 0\n-1 2 0\n1 -2 0\n-1 -2 0\n3 1 0\n",
                 "d 1 2 0\n3 3 0\n2 0\n",
                 1,
@@ -203,9 +203,9 @@ fn lines_that_are_not_spelled_are_placed(rt: HostRuntime) -> Result<(), Fail> {
     all_trim(
         rt.alloc(),
         &[
-            trim(SIX, "-1 -1 2", 3, "e text proof unended 7\n"),
-            trim(FOUR, "1 1 -2 1 2 3 0\n", 3, "e text proof twice 13\n"),
-            trim(FOUR, "1 1 -2 1 2 0\n", 3, "e text proof odd-map 11\n"),
+            make_case(SIX, "-1 -1 2", 3, "e text proof unended 7\n"),
+            make_case(FOUR, "1 1 -2 1 2 3 0\n", 3, "e text proof twice 13\n"),
+            make_case(FOUR, "1 1 -2 1 2 0\n", 3, "e text proof odd-map 11\n"),
         ],
     )
 }
@@ -217,8 +217,8 @@ fn deletions_of_nothing_are_passed_over(rt: HostRuntime) -> Result<(), Fail> {
     all_trim(
         rt.alloc(),
         &[
-            with(trim(FOUR, "d 1 3 0\n2 0\n", 0, report), &["--stats"]),
-            with(trim(FOUR, "d 0\n2 0\n", 0, report), &["--stats"]),
+            with(make_case(FOUR, "d 1 3 0\n2 0\n", 0, report), &["--stats"]),
+            with(make_case(FOUR, "d 0\n2 0\n", 0, report), &["--stats"]),
         ],
     )
 }
@@ -232,15 +232,18 @@ fn units_are_kept_where_that_is_asked_for(rt: HostRuntime) -> Result<(), Fail> {
     all_trim(
         alloc,
         &[
-            trim(one, "d 1 0\n2 0\n", 1, "s NO EMPTY CLAUSE\n"),
-            with(trim(one, "d 1 0\n2 0\n", 0, VERIFIED), &["--keep-units"]),
-            trim(chain, "d -1 2 0\n3 0\n", 1, "s NO EMPTY CLAUSE\n"),
+            make_case(one, "d 1 0\n2 0\n", 1, "s NO EMPTY CLAUSE\n"),
             with(
-                trim(chain, "d -1 2 0\n3 0\n", 0, VERIFIED),
+                make_case(one, "d 1 0\n2 0\n", 0, VERIFIED),
+                &["--keep-units"],
+            ),
+            make_case(chain, "d -1 2 0\n3 0\n", 1, "s NO EMPTY CLAUSE\n"),
+            with(
+                make_case(chain, "d -1 2 0\n3 0\n", 0, VERIFIED),
                 &["--keep-units"],
             ),
             with(
-                trim(FOUR, "d 1 2 0\n2 0\n", 1, "s REJECTED lemma 5 against 3\n"),
+                make_case(FOUR, "d 1 2 0\n2 0\n", 1, "s REJECTED lemma 5 against 3\n"),
                 &["--keep-units"],
             ),
         ],
@@ -266,16 +269,20 @@ fn limits_of_trim_are_named(rt: HostRuntime) -> Result<(), Fail> {
     trims(
         alloc,
         &few_cells,
-        &trim(FOUR, "2 0\n", 4, "e limit proof cells\n"),
+        &make_case(FOUR, "2 0\n", 4, "e limit proof cells\n"),
     )?;
-    trims(alloc, &cells, &trim(FOUR, "2 0\n", 0, VERIFIED))?;
-    trims(alloc, &ids, &trim(FOUR, "2 0\n", 4, "e limit proof ids\n"))?;
+    trims(alloc, &cells, &make_case(FOUR, "2 0\n", 0, VERIFIED))?;
+    trims(
+        alloc,
+        &ids,
+        &make_case(FOUR, "2 0\n", 4, "e limit proof ids\n"),
+    )?;
     trims(
         alloc,
         &few_bytes,
-        &trim(SIX, SIX_LEMMAS, 4, "e limit lsr bytes\n"),
+        &make_case(SIX, SIX_LEMMAS, 4, "e limit lsr bytes\n"),
     )?;
-    trims(alloc, &bytes, &trim(SIX, SIX_LEMMAS, 0, VERIFIED))
+    trims(alloc, &bytes, &make_case(SIX, SIX_LEMMAS, 0, VERIFIED))
 }
 
 #[test]
@@ -287,7 +294,7 @@ fn binary_proofs_are_read_and_written(rt: HostRuntime) -> Result<(), Fail> {
     let mut desk = desk_of(alloc, SIX, "", 8)?;
     desk.put_file("p", &proof)?;
     desk.restart();
-    let case = trim(SIX, "", 0, VERIFIED);
+    let case = make_case(SIX, "", 0, VERIFIED);
     let binary = ["--proof-form", "binary", "--lsr-form", "binary"];
     let got = run_trim(alloc, &Limits::shipped(), &with(case, &binary), &mut desk)?;
     wants(0, VERIFIED, got, desk.out_bytes())?;
@@ -321,7 +328,7 @@ fn two_files_of_one_name_are_refused(rt: HostRuntime) -> Result<(), Fail> {
 
 /// The calls of a kind that a run makes, none of which fails.
 fn calls(alloc: Global, kind: CallKind, piece: usize) -> Result<u32, Fail> {
-    let case = trim(SIX, SIX_LEMMAS, 0, VERIFIED);
+    let case = make_case(SIX, SIX_LEMMAS, 0, VERIFIED);
     let mut desk = desk_of(alloc, SIX, SIX_LEMMAS, piece)?;
     let got = run_trim(alloc, &Limits::shipped(), &case, &mut desk)?;
     wants(0, VERIFIED, got, desk.out_bytes())?;
@@ -331,7 +338,7 @@ fn calls(alloc: Global, kind: CallKind, piece: usize) -> Result<u32, Fail> {
 /// Fails where a run of which one call fails isn't ended by that: a failed read writes no file, and a failed write leaves
 /// prefixes.
 fn fails_at(alloc: Global, kind: CallKind, nth: u32, piece: usize) -> Result<(), Fail> {
-    let case = trim(SIX, SIX_LEMMAS, 0, VERIFIED);
+    let case = make_case(SIX, SIX_LEMMAS, 0, VERIFIED);
     let mut desk = desk_of(alloc, SIX, SIX_LEMMAS, piece)?;
     desk.refuse(kind, nth)?;
     let got = run_trim(alloc, &Limits::shipped(), &case, &mut desk)?;
