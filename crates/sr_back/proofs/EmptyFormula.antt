@@ -34,6 +34,7 @@ loaded f e = record {
   none_assumed = refl;
   pivots = tt;
   distinct = subst (λ cs. All NoRepeats (clauses (all_loaded cs []))) (sym e) one;
+  small = rw e (omega arith);
 }
   where
     one : All NoRepeats ([] ∷ [])
