@@ -1,6 +1,9 @@
 -- What stays true of a propagator's fields.
-use Rattle.std.proofs.Common.{◌≡◌, ◌≢◌, ◌<◌, ◌≤◌, ◌+◌, ◌*◌, ℕ, suc, zero, Bool, true, false, ◌==◌, List, [], ◌∷◌, ◌++◌, Some, None, refl, sym, ◌∙◌, ap, subst, arith, length, get_or, take}
+use Rattle.std.proofs.Common.{max, Result, Ok, Err, OnOk, OnErr, ◌≡◌, ◌≢◌, ◌<◌, ◌≤◌, ◌+◌, ◌*◌, ℕ, suc, zero, Bool, true, false, ◌==◌, List, [], ◌∷◌, ◌++◌, Some, None, refl, sym, ◌∙◌, ap, subst, arith, length, get_or, take}
 use Rattle.sr_base.specs.Literal.{Literal}
+use Rattle.sr_base.specs.declared.literal.TheConstants.{MOST_VARS}
+use Rattle.sr_base.specs.declared.lists.NoMemory.{NoMemory}
+use Rattle.sr_watch.specs.Trail.{Entries}
 use Rattle.sr_arena.specs.Cells.{Memory, Cell, cell_at, gone}
 use Rattle.std.proofs.lemmas.List.{length-append, get_or_append_left, get_or_at}
 use Rattle.std.proofs.lemmas.Bool.Decides.{nat_tests}
@@ -10,20 +13,15 @@ use Rattle.sr_model.specs.Assignment.{holds_number}
 use Rattle.sr_model.proofs.Soundness.{by_test}
 use Rattle.sr_watch.specs.declared.parts.Part.{Part}
 use Rattle.sr_watch.specs.declared.parts.Part.TheVariants.{All}
-use Rattle.sr_watch.specs.declared.scanning.Next.{Next}
-use Rattle.sr_watch.specs.declared.scanning.Next.TheVariants.{Nothing, Falsified, Forces}
 use Rattle.sr_watch.specs.Parts.{counts}
-use Rattle.sr_watch.specs.State.{Slot, State, IsSound, slot_in, lits_at, no_clause, held_clause, held_cells, assumed_in, AreWithin, IsAttached, IsHeld, IsForcedBy, AllFalse}
+use Rattle.sr_watch.specs.State.{Slot, State, IsSound, slot_in, lits_at, no_clause, held_clause, held_cells, assumed_in, AreWithin, IsAttached, IsHeld}
 use Rattle.sr_watch.specs.Changes.{with_part, IsAdded}
 use Rattle.sr_watch.specs.Inside.{state_of, slot_of, slots_of, most_entries, AreKnown, IsKept}
-use Rattle.sr_watch.specs.Scanning.{IsSettled, AreSettled, counts_at, Finds}
-use Rattle.sr_watch.specs.Running.{IsNext, FindsNext, AreAttached}
+use Rattle.sr_watch.specs.Running.{IsNext, AreAttached}
 use Rattle.sr_watch.proofs.Entries.{by_eq}
 use Rattle.sr_watch.proofs.Bounds.{few_entries}
 use Rattle.sr_watch.proofs.Growing.{StandFor, sound_assume, sound_derive, sound_cut, sound_clauses, derived_once_push, derived_once_assume, derived_once_cut}
 use Rattle.sr_watch.proofs.Slots.{slot_is, weights_are, stand_some, stand_none, known_same, held_is, knows_push}
-use Rattle.sr_watch.proofs.Clauses.{closed_all, none_empty}
-use Rattle.sr_watch.proofs.Answering.{attached_of}
 
 none_at : (r : ℕ) → get_or (no_clause ∷ []) r no_clause ≡ no_clause
 none_at zero = refl
@@ -173,41 +171,6 @@ cells_are v m ls rs = sym (weights_are m.cells)
 pub held_in : (v : ℕ) (m : Memory) (known : List ℕ) (ls : List Literal) (rs : List ℕ) (at : ℕ) → IsKept v m known ls rs → IsAttached (state_of v m ls rs) at → arena.IsHeld m at
 held_in v m known ls rs at k h = sym (ap (λ (c : Slot). c.held) (slot_is m at)) ∙ k.sound.held at h
 
--- where a number stands
-index_of : (r : ℕ) (known : List ℕ) → holds_number r known ≡ true → (i : ℕ) × (i < length known) × (get_or known i 0 ≡ r)
-index_of r [] h = absurd cc
-index_of r (k ∷ known) h = by_test (k == r)
-    (λ t. (0, omega arith, grind (arith, nat_tests)))
-    (λ f. let w = index_of r known (rw f at h) in (suc w.0, omega (arith, w.1), w.2))
-
--- what a scan finds
-settled_at : (v : ℕ) (m : Memory) (known : List ℕ) (ls : List Literal) (rs : List ℕ) (p : Part) → IsKept v m known ls rs → AreSettled m p known ls (length known) → (r : ℕ) → counts p (slot_in (slots_of m) r).part ≡ true → IsSettled ls (slot_in (slots_of m) r).lits
-settled_at v m known ls rs p k f r h =
-    let w = index_of r known (k.listed.all r (held_in v m known ls rs r k (attached_of p (state_of v m ls rs) r h))) in
-    let c : counts_at m p r ≡ true = subst (λ (x : Slot). counts p x.part ≡ true) (slot_is m r) h in
-    let g : IsSettled ls (cell_at m (get_or known w.0 0)).lits = f w.0 w.1 (subst (λ j. counts_at m p j ≡ true) (sym w.2) c) in
-    subst (λ (x : Slot). IsSettled ls x.lits) (sym (slot_is m r)) (subst (λ j. IsSettled ls (cell_at m j).lits) w.2 g)
-
-pub finds_next : (v : ℕ) (m : Memory) (known : List ℕ) (ls : List Literal) (rs : List ℕ) (p : Part) (x : Next) → IsKept v m known ls rs → Finds m p known ls x → FindsNext p (state_of v m ls rs) x
-finds_next v m known ls rs p Nothing k f = record {
-  closed = closed_all p (slots_of m) ls (λ r h. (settled_at v m known ls rs p k f r h).closed);
-  none_empty = none_empty p (slots_of m) (λ r h. (settled_at v m known ls rs p k f r h).some);
-}
-finds_next v m known ls rs p (Falsified at) k f = record {
-  of_part = subst (λ (x : Slot). counts p x.part ≡ true) (sym (slot_is m at)) f.of_part;
-  all_false = subst (λ (x : Slot). AllFalse ls x.lits) (sym (slot_is m at)) f.all_false;
-}
-finds_next v m known ls rs p (Forces l at) k f =
-    let mine : counts p (slot_in (slots_of m) at).part ≡ true = subst (λ (x : Slot). counts p x.part ≡ true) (sym (slot_is m at)) f.of_part in (
-      record {
-        some = f.some;
-        attached = attached_of p (state_of v m ls rs) at mine;
-        forced = subst (λ (x : Slot). IsForcedBy x.lits ls l) (sym (slot_is m at)) f.single.forced;
-        open_here = f.single.open_here;
-      },
-      mine,
-    )
-
 -- the literals of memory's clauses are distinct
 pub distinct_in : (v : ℕ) (m : Memory) (known : List ℕ) (ls : List Literal) (rs : List ℕ) → IsKept v m known ls rs → (r : ℕ) → NoRepeats (cell_at m r).lits
 distinct_in v m known ls rs k r = subst (λ (x : Slot). NoRepeats x.lits) (slot_is m r) (k.sound.distinct r)
@@ -223,3 +186,19 @@ held_back v m ls rs at h = sym (ap (λ (c : Slot). c.held) (slot_is m at)) ∙ h
 
 pub lits_is : (v : ℕ) (m : Memory) (ls : List Literal) (rs : List ℕ) (s : State) (at : ℕ) → state_of v m ls rs ≡ s → lits_at s at ≡ (cell_at m at).lits
 lits_is v m ls rs s at e = sym (ap (λ (x : State). lits_at x at) e) ∙ ap (λ (c : Slot). c.lits) (slot_is m at)
+
+-- more variables
+pub kept_wider : (v w : ℕ) (m : Memory) (known : List ℕ) (ls : List Literal) (rs : List ℕ) → v ≤ w → w ≤ MOST_VARS → IsKept v m known ls rs → IsKept w m known ls rs
+kept_wider v w m known ls rs le fits k =
+    let x = k.sound in
+    record {
+      fits = fits;
+      sound = record { sizes = x.sizes; within = λ l h. omega (arith, le, x.within l h); clauses_within = λ r l h. omega (arith, le, x.clauses_within r l h); distinct = x.distinct; held = x.held; once = x.once; attached = x.attached; forced = x.forced; news = x.news };
+      derived_once = k.derived_once;
+      listed = k.listed;
+    }
+
+-- entries with room for more variables, or none of it
+pub grown_entries : (P : Entries → Type 0) (a b : Entries) (r : Result Unit NoMemory) (v : ℕ) → a.vars < v → OnOk r (b ≡ record a { vars = max a.vars v }) → OnErr r (b ≡ a) → P (record a { vars = v }) → P a → P b
+grown_entries P a b (Ok u) v lt ok err wide here = let is : max a.vars v ≡ v = omega (arith, lt) in subst P (sym (ap (λ n. record a { vars = n }) is) ∙ sym ok) wide
+grown_entries P a b (Err e) v lt ok err wide here = subst P (sym err) here

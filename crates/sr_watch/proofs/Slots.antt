@@ -1,5 +1,5 @@
 -- Clauses by reference, as the memory keeps them and as contracts see them.
-use Rattle.std.proofs.Common.{◌≡◌, ◌≢◌, ◌<◌, ◌≤◌, ◌+◌, ℕ, suc, zero, true, false, cond, ◌==◌, List, [], ◌∷◌, ◌++◌, Option, Some, None, refl, sym, ◌∙◌, ap, arith, length, get_or, set, get_or-set_other}
+use Rattle.std.proofs.Common.{Bool, ◌≡◌, ◌≢◌, ◌<◌, ◌≤◌, ◌+◌, ℕ, suc, zero, true, cond, ◌==◌, List, [], ◌∷◌, ◌++◌, Option, Some, None, refl, sym, ◌∙◌, ap, arith, length, get_or, set, get_or-set_other}
 use Rattle.std.specs.Prelude.{map}
 use Rattle.std.proofs.Math.ListN.{get_or-map}
 use Rattle.std.proofs.lemmas.List.{map-set, set-set}
@@ -13,7 +13,7 @@ use Rattle.sr_watch.specs.declared.parts.Part.TheVariants.{Core, All}
 use Rattle.sr_watch.specs.Parts.{is_core, counts}
 use Rattle.sr_watch.specs.State.{Slot, State, slot_in, reason_at, weights, no_clause, IsHeld, IsSound}
 use Rattle.sr_watch.specs.Changes.{with_part}
-use Rattle.sr_watch.specs.Inside.{slot_of, slots_of, AreKnown}
+use Rattle.sr_watch.specs.Inside.{part_of, slot_of, slots_of, AreKnown}
 use Rattle.sr_watch.proofs.Entries.{by_eq}
 use Rattle.sr_watch.proofs.Growing.{StandFor}
 
@@ -29,22 +29,19 @@ weights_are [] = refl
 weights_are (c ∷ cs) = ap (λ x. arena.weight c + x) (weights_are cs)
 
 -- the marks say the part
-core_or_all : (p : Part) → cond (is_core p) Core All ≡ p
+pub core_or_all : (p : Part) → cond (is_core p) Core All ≡ p
 core_or_all Core = refl
 core_or_all All = refl
 
-pub part_none : (m : Memory) (at : ℕ) → slots_of (put m at (record (cell_at m at) { marked = false })) ≡ with_part (slots_of m) at None
-part_none m at = slots_put m at (record (cell_at m at) { marked = false }) ∙ ap (λ (c : Slot). set (slots_of m) at (record c { part = None })) (sym (slot_is m at))
-
-pub part_some : (m : Memory) (at : ℕ) (p : Part) → arena.IsHeld m at
-    → slots_of (put (put m at (record (cell_at m at) { flagged = is_core p })) at (record (cell_at (put m at (record (cell_at m at) { flagged = is_core p })) at) { marked = true })) ≡ with_part (slots_of m) at (Some p)
-part_some m at p h =
-    let c1 : Cell = record (cell_at m at) { flagged = is_core p } in
-    let c2 : Cell = record c1 { marked = true } in
+pub part_set : (m : Memory) (at : ℕ) (p : Option Part) (mark flag : Bool) → part_of mark flag ≡ p → arena.IsHeld m at
+    → slots_of (put (put m at (record (cell_at m at) { flagged = flag })) at (record (cell_at (put m at (record (cell_at m at) { flagged = flag })) at) { marked = mark })) ≡ with_part (slots_of m) at p
+part_set m at p mark flag is h =
+    let c1 : Cell = record (cell_at m at) { flagged = flag } in
+    let c2 : Cell = record c1 { marked = mark } in
     let here : cell_at (put m at c1) at ≡ c1 = put_here m at c1 h in
     let one : slots_of (put (put m at c1) at c2) ≡ set (slots_of m) at (slot_of c2) = slots_put (put m at c1) at c2 ∙ ap (λ x. set x at (slot_of c2)) (slots_put m at c1) ∙ set-set (slots_of m) at (slot_of c1) (slot_of c2) in
-    let two : slot_of c2 ≡ record (slot_in (slots_of m) at) { part = Some p } = rw (slot_is m at) (ap (λ (q : Part). record (slot_of (cell_at m at)) { part = Some q }) (core_or_all p)) in
-    ap (λ (c : Cell). slots_of (put (put m at c1) at (record c { marked = true }))) here ∙ one ∙ ap (set (slots_of m) at) two
+    let two : slot_of c2 ≡ record (slot_in (slots_of m) at) { part = p } = rw (slot_is m at) (ap (λ (q : Option Part). record (slot_of (cell_at m at)) { part = q }) is) in
+    ap (λ (c : Cell). slots_of (put (put m at c1) at (record c { marked = mark }))) here ∙ one ∙ ap (set (slots_of m) at) two
 
 -- another part changes nothing else
 record SamePlace (old new : Slot) : Type 0 where
