@@ -34,9 +34,6 @@ no_watches (x ∷ []) b lt k h = absurd cc
 no_watches (x ∷ y ∷ c) b lt k h = absurd (omega arith)
 
 -- exchanging two literals
-pub arranged_start : (at : ℕ) (m : Memory) → IsArranged at m m
-arranged_start at m = record { each = λ r. turned_same (cell_at m r); others = λ r ne. refl; most = refl; used = refl; cells = refl }
-
 pub arranged_on : (at : ℕ) (a b c : Memory) → IsArranged at a b → IsArranged at b c → IsArranged at a c
 arranged_on at a b c x y = record {
   each = λ r. let p = x.each r in let q = y.each r in record { held = q.held ∙ p.held; number = q.number ∙ p.number; marked = q.marked ∙ p.marked; flagged = q.flagged ∙ p.flagged; size = q.size ∙ p.size; set = λ k. q.set k ∙ p.set k };
@@ -127,9 +124,6 @@ pub record IsRaising (trail old c : List Literal) (place i : ℕ) : Type 0 where
   pub size : length c ≡ length old
   pub last : (j : ℕ) → place ≤ j → j < i → fall_of trail (get_or c j (plus 0)) ≤ fall_of trail (get_or c place (plus 0))
   pub before : (j : ℕ) → j < place → get_or c j (plus 0) ≡ get_or old j (plus 0)
-
-pub raising_start : (trail c : List Literal) (place : ℕ) → IsRaising trail c c place place
-raising_start trail c place = record { size = refl; last = λ j le lt. absurd (omega arith); before = λ j lt. refl }
 
 pub raising_skip : (trail old c : List Literal) (place i : ℕ) → fall_of trail (get_or c i (plus 0)) ≤ fall_of trail (get_or c place (plus 0)) → IsRaising trail old c place i → IsRaising trail old c place (i + 1)
 raising_skip trail old c place i le x = record {

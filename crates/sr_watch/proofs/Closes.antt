@@ -177,10 +177,6 @@ pub false_all : (m : Memory) (e : Entries) (at : ℕ) → IsFalsified m e.lits a
 false_all m e at (inl x) = false_on true m e at x
 false_all m e at (inr x) = false_on false m e at x
 
--- a step over one side is one over both
-pub propagated_step : (m n : Memory) (e g : Entries) → IsSound (joined e m) → IsStep true m n e g → IsPropagated m n e g
-propagated_step m n e g x y = propagated_more true m m n e e g (propagated_start m e x) y
-
 -- what callers see of propagation
 pub propagated_derives : (m n : Memory) (e g : Entries) → IsPropagated m n e g → Derives (joined e m) (joined g n)
 propagated_derives m n e g x = record {

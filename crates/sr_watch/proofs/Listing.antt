@@ -1,6 +1,6 @@
 -- What calls on the lists do to how often a clause is listed.
 use Rattle.std.proofs.lemmas.Bool.Decides.{nat_tests}
-use Rattle.std.proofs.Common.{◌≡◌, ◌≢◌, ◌<◌, ◌≤◌, ◌+◌, ℕ, suc, zero, Bool, false, cond, List, [], ◌∷◌, ◌++◌, refl, sym, ◌∙◌, ap, subst, arith, length, get_or}
+use Rattle.std.proofs.Common.{◌≡◌, ◌≢◌, ◌<◌, ◌≤◌, ◌+◌, ℕ, suc, zero, Bool, false, cond, List, [], ◌∷◌, ◌++◌, refl, sym, ap, subst, arith, length, get_or}
 use Rattle.std.specs.List.{sum_by, count_by}
 use Rattle.std.proofs.lemmas.List.Sums.{sum_by-cons, sum_by-append}
 use Rattle.sr_base.specs.Literal.{Literal, same, literal_code}
@@ -56,9 +56,6 @@ short_begun f g w b r key lt = b.others key (not_short w key lt) (is_of r)
 -- a watch is taken
 pub listed_taken : (f g : Family) (w : Watch) → IsTaken f g w → (r : ℕ) (k : Literal) → listed g r k ≡ listed f r k
 listed_taken f g w t r k = t.lists (key_of k) (is_of r)
-
-pub left_taken : (f g : Family) (w : Watch) → IsTaken f g w → Takes (left_of f.ahead) (left_of g.ahead) w.at
-left_taken f g w t r = t.ahead (is_of r) ∙ count_cons (is_of r) w g.ahead
 
 pub takes_first : (w : Watch) (ws rest : List Watch) → AreSame rest ws → Takes (left_of (w ∷ ws)) (left_of rest) w.at
 takes_first w ws rest s r = omega (arith, count_cons (is_of r) w ws, s (is_of r))

@@ -1,17 +1,16 @@
 -- What is left where watches of detached clauses are dropped.
 use Rattle.std.proofs.lemmas.Bool.Decides.{nat_tests}
-use Rattle.std.proofs.Common.{◌≡◌, ◌≢◌, inl, inr, ◌<◌, ◌≤◌, ◌+◌, ℕ, suc, Bool, true, false, cond, ◌==◌, List, [], ◌∷◌, Some, None, refl, sym, ◌∙◌, ap, subst, arith, length, get_or}
+use Rattle.std.proofs.Common.{◌≡◌, ◌≢◌, ◌<◌, ◌≤◌, ◌+◌, ℕ, suc, Bool, true, false, cond, ◌==◌, List, [], ◌∷◌, Some, None, refl, sym, ◌∙◌, ap, subst, arith, length, get_or}
 use Rattle.std.specs.List.{sum_by, count_by}
 use Rattle.std.proofs.lemmas.List.Sums.{sum_by-cons}
-use Rattle.sr_arena.specs.Cells.{Cell, Memory, cell_at, IsHeld, put, held_cells}
-use Rattle.sr_arena.proofs.Standing.{put_here, put_other}
+use Rattle.sr_arena.specs.Cells.{Memory, cell_at}
 use Rattle.sr_model.specs.Assignment.{holds_number}
 use Rattle.sr_model.proofs.Soundness.{by_test}
 use Rattle.sr_lists.specs.declared.blocks.Watch.{Watch}
 use Rattle.sr_lists.specs.Family.{Family, list_at, IsPushed, IsBegun, IsTaken, IsEnded}
 use Rattle.sr_watch.specs.Watching.{on_side, is_of, times, left_of, AreStocked}
 use Rattle.sr_watch.specs.Walking.{HasSameShape}
-use Rattle.sr_watch.specs.Purging.{IsPurgedAt, IsPurged, IsClearedCell, AreCleared}
+use Rattle.sr_watch.specs.Purging.{IsPurgedAt, IsPurged}
 use Rattle.sr_watch.proofs.Entries.{by_eq}
 use Rattle.sr_watch.proofs.Listing.{count_cons, count_append}
 use Rattle.sr_watch.proofs.Visits.{stocked_dropped, stocked_pushed}
@@ -116,39 +115,9 @@ purged_over core m f0 f n le x = record {
   gone = λ r o. let z : count_by (is_of r) [] ≡ 0 = refl in omega (arith, sum_none (is_of r) f.lists (λ k lt. x.gone r k (omega arith) o), z);
 }
 
--- flags that are taken away
-pub cleared_start : (m : Memory) → AreCleared m m
-cleared_start m = record { each = λ r. record { held = refl; lits = refl; number = refl; marked = refl; flagged = inl refl }; most = refl; used = refl; cells = refl }
-
-cleared_cell : (b c d : Cell) → IsClearedCell b c → d ≡ record c { flagged = false } → c.marked ≡ false → IsClearedCell b d
-cleared_cell b c d x e un = rw e (record { held = x.held; lits = x.lits; number = x.number; marked = x.marked; flagged = inr (sym x.marked ∙ un, refl) })
-
-pub cleared_more : (a m n : Memory) (at : ℕ) → IsHeld m at → AreCleared a m → (cell_at m at).marked ≡ false → n ≡ put m at (record (cell_at m at) { flagged = false }) → held_cells n ≡ held_cells m → AreCleared a n
-cleared_more a m n at h x un e cells = record {
-  each = λ r. by_eq r at
-      (λ q. subst (λ j. IsClearedCell (cell_at a j) (cell_at n j)) (sym q) (cleared_cell (cell_at a at) (cell_at m at) (cell_at n at) (x.each at) (rw e (put_here m at (record (cell_at m at) { flagged = false }) h)) un))
-      (λ ne. rw (e, put_other m at r (record (cell_at m at) { flagged = false }) ne) (x.each r));
-  most = ap (λ (y : Memory). y.most) e ∙ x.most;
-  used = ap (λ (y : Memory). y.used) e ∙ x.used;
-  cells = cells ∙ x.cells;
-}
-
 -- the first known clauses were cleared
 abbrev pub AreFirstCleared : Memory → List ℕ → ℕ → Type 0
 AreFirstCleared m known n = (i : ℕ) → i < n → (cell_at m (get_or known i 0)).marked ≡ false → (cell_at m (get_or known i 0)).flagged ≡ false
-
-pub first_marked : (m : Memory) (known : List ℕ) (n : ℕ) → (cell_at m (get_or known n 0)).marked ≡ true → AreFirstCleared m known n → AreFirstCleared m known (n + 1)
-first_marked m known n t x i lt un = by_eq i n
-    (λ e. let u : (cell_at m (get_or known n 0)).marked ≡ false = subst (λ j. (cell_at m (get_or known j 0)).marked ≡ false) e un in absurd cc)
-    (λ ne. x i (omega arith) un)
-
-pub first_cleared : (m n : Memory) (known : List ℕ) (k at : ℕ) → IsHeld m at → at ≡ get_or known k 0 → n ≡ put m at (record (cell_at m at) { flagged = false }) → AreFirstCleared m known k → AreFirstCleared n known (k + 1)
-first_cleared m n known k at h is e x i lt un = by_eq (get_or known i 0) at
-    (λ q. subst (λ j. (cell_at n j).flagged ≡ false) (sym q) (rw (e, put_here m at (record (cell_at m at) { flagged = false }) h) refl))
-    (λ ne. by_eq i k
-    (λ q. absurd (ne (ap (λ j. get_or known j 0) q ∙ sym is)))
-    (λ d. let c : cell_at n (get_or known i 0) ≡ cell_at m (get_or known i 0) = rw e (put_other m at (get_or known i 0) (record (cell_at m at) { flagged = false }) ne) in
-    ap (λ (y : Cell). y.flagged) c ∙ x i (omega arith) (ap (λ (y : Cell). y.marked) (sym c) ∙ un)))
 
 index_of : (r : ℕ) (known : List ℕ) → holds_number r known ≡ true → (i : ℕ) × (i < length known) × (get_or known i 0 ≡ r)
 index_of r [] h = absurd cc

@@ -16,7 +16,7 @@ use Rattle.sr_watch.specs.Watching.{IsGuarded, AreGuarded, is_on, on_side, claus
 use Rattle.sr_watch.specs.Walking.{KeepsGuards, IsTurnedCell, IsTurned, IsGrown, IsStep, HasSameShape, IsWalked}
 use Rattle.sr_watch.specs.Resting.{is_pending, IsSeen, IsResting, IsPrepared}
 use Rattle.sr_watch.proofs.Walks.{some_more, some_same}
-use Rattle.sr_watch.proofs.Visits.{clause_gone, short_turned, on_turned, stocked_turned, turned_start, grown_start}
+use Rattle.sr_watch.proofs.Visits.{clause_gone, short_turned, on_turned, stocked_turned}
 use Rattle.sr_watch.proofs.OnWalk.{includes_take, includes_kept, take_kept, grown_longer}
 
 -- a guarded clause stays guarded
@@ -141,14 +141,8 @@ advanced_rests core m e w pr lt g y = record {
   kept = y.kept;
 }
 
-pub shape_start : (f : Family) → HasSameShape f f
-shape_start f = record { keys = refl; walked = refl; room = refl }
-
 pub shape_on : (f g h : Family) → HasSameShape f g → HasSameShape g h → HasSameShape f h
 shape_on f g h x y = record { keys = y.keys ∙ x.keys; walked = y.walked ∙ x.walked; room = y.room ∙ x.room }
-
-pub step_start : (core : Bool) (m : Memory) (e : Entries) → IsSound (joined e m) → IsStep core m m e e
-step_start core m e x = record { turned = turned_start core m; grown = grown_start m e x }
 
 -- what a loop of steps over one side keeps
 pub record IsClosing (core : Bool) (m n : Memory) (e h : Entries) (w v : Watches) : Type 0 where

@@ -1,7 +1,6 @@
 -- Lemmas on the watches of one clause.
 use Rattle.std.proofs.lemmas.List.{get_or_default}
-use Rattle.std.proofs.lemmas.Bool.Decides.{nat_tests}
-use Rattle.std.proofs.Common.{◌≡◌, ◌≢◌, ◌⊎◌, inl, inr, ◌<◌, ◌≤◌, ◌+◌, ◌-◌, ℕ, suc, zero, true, false, ◌==◌, List, [], ◌∷◌, refl, sym, ◌∙◌, ap, subst, arith, length, get_or}
+use Rattle.std.proofs.Common.{◌≡◌, ◌≢◌, ◌⊎◌, inl, inr, ◌<◌, ◌≤◌, ◌-◌, ℕ, suc, zero, true, false, List, [], ◌∷◌, refl, sym, ◌∙◌, ap, subst, arith, length, get_or}
 use Rattle.sr_base.specs.Literal.{Literal, plus, complement, same, has}
 use Rattle.sr_base.proofs.Literals.{same_tells}
 use Rattle.sr_model.proofs.Soundness.{by_test}
@@ -89,9 +88,3 @@ is_at c w other x at h ex eo (inr p) =
       watch = ap (λ i. get_or c i (plus 0)) p.0 ∙ watch_second c w h (ap (λ y. same y w) x_is ∙ p.1);
       other_is = get_or_default c (1 - at) (plus 0) other (omega (arith, watch_long c w h, p.0)) ∙ sym eo;
     }
-
-pub place_more : (c trail : List Literal) (i : ℕ) (x : Literal) → i < length c → x ≡ get_or c i x → has (complement x) trail ≡ true → ((j : ℕ) → 2 ≤ j → j < i → has (complement (get_or c j (plus 0))) trail ≡ true)
-    → (j : ℕ) → 2 ≤ j → j < i + 1 → has (complement (get_or c j (plus 0))) trail ≡ true
-place_more c trail i x lt e f before j low high = by_test (j == i)
-    (λ t. let is : j ≡ i = grind (arith, nat_tests) in let there : get_or c j (plus 0) ≡ x = ap (λ n. get_or c n (plus 0)) is ∙ get_or_default c i (plus 0) x lt ∙ sym e in subst (λ y. has (complement y) trail ≡ true) (sym there) f)
-    (λ t. let ne : j ≢ i = grind (arith, nat_tests) in before j low (omega arith))

@@ -18,7 +18,7 @@ use Rattle.sr_watch.specs.Scanning.{IsSettled, IsSingle}
 use Rattle.sr_watch.specs.Running.{IsNext}
 use Rattle.sr_watch.specs.Watching.{SomeTrue, IsGuarded, IsStuck, is_short, on_side, clause_on, is_of, times, left_of, AreStocked, AreLinked}
 use Rattle.sr_watch.specs.Walking.{IsGrown, HasSameShape}
-use Rattle.sr_watch.specs.Resting.{is_pending, IsSeen, AreShortListed, AreShortTrue, IsPending, PendingIsTrue, IsResting}
+use Rattle.sr_watch.specs.Resting.{is_pending, IsSeen, AreShortListed, AreShortTrue, IsPending, IsResting}
 use Rattle.sr_watch.proofs.Slots.{slot_is}
 use Rattle.sr_watch.proofs.Walks.{some_more}
 use Rattle.sr_watch.proofs.Listing.{count_cons, count_append, listed_short, listed_taken, listed_short_begun, listed_short_ended}
@@ -212,17 +212,10 @@ settled_rests core m e h w v kept_is done_is x sound shape ahead st li le sh mor
       });
     }
 
--- the pending clause is true
-pub pending_true : (m : Memory) (s : List Literal) (at : ℕ) → SomeTrue s (cell_at m at).lits → PendingIsTrue m s (Some at)
-pending_true m s at t r z = let is : at ≡ r = grind (arith, nat_tests) in subst (λ j. SomeTrue s (cell_at m j).lits) is t
-
 pub true_guards : (core : Bool) (m : Memory) (b s : List Literal) (r : ℕ) → SomeTrue s (cell_at m r).lits → IsGuarded b s (clause_on core m r)
 true_guards core m b s r t = by_test (on_side core m r)
     (λ o. λ k i f. subst (SomeTrue s) (sym (clause_here core m r o)) t)
     (λ o. none_guarded core m r o b s)
-
-pub is_itself : (at : ℕ) → is_pending (Some at) at ≡ true
-is_itself at = grind (arith, nat_tests)
 
 pub pending_later : (core : Bool) (m : Memory) (e h : Entries) (r : ℕ) → IsGrown e h → IsPending core m e.lits r → IsPending core m h.lits r
 pending_later core m e h r x p = record { held = p.held; on = p.on; stuck = record { left = p.stuck.left; others = λ k i ne. includes_kept e.lits h.lits x.lits (complement k) (p.stuck.others k i ne) } }

@@ -39,19 +39,6 @@ walking_same on cs list new left rest s b0 b1 w p q x = record {
   walked = λ r z. x.walked r (sym (q r) ∙ z);
 }
 
--- a clause that is no clause of the side is dropped
-pub dropped_on : (on : ℕ → Bool) (cs : ℕ → List Literal) (list : ℕ → Literal → ℕ) (left rest : ℕ → ℕ) (s b0 b1 : List Literal) (w : Literal) (at : ℕ)
-    → Takes left rest at → on at ≡ false → ((b t : List Literal) → IsGuarded b t (cs at)) → IsWalking on cs list left s b0 b1 w → IsWalking on cs list rest s b0 b1 w
-dropped_on on cs list left rest s b0 b1 w at q off none x = record {
-  linked = λ r k o. by_test (at == r)
-      (λ y. let is : at ≡ r = grind (arith, nat_tests) in let o' : on r ≡ false = subst (λ j. on j ≡ false) is off in absurd cc)
-      (λ y. grind (arith, x.linked r k o, q r, y));
-  guarded = x.guarded;
-  walked = λ r z. by_test (at == r)
-      (λ y. let is : at ≡ r = grind (arith, nat_tests) in subst (λ j. IsGuarded b1 s (cs j)) is (none b1 s))
-      (λ y. x.walked r (grind (arith, q r, y, z)));
-}
-
 -- a clause that has a true literal stays in the list
 pub kept_on : (on : ℕ → Bool) (cs : ℕ → List Literal) (list new : ℕ → Literal → ℕ) (left rest : ℕ → ℕ) (s b0 b1 : List Literal) (w : Literal) (at : ℕ)
     → Pushes list new w at → Takes left rest at → SomeTrue s (cs at) → IsWalking on cs list left s b0 b1 w → IsWalking on cs new rest s b0 b1 w
