@@ -71,6 +71,14 @@ impl Lists {
         self.lists.len()
     }
 
+    /// How many watches there are.
+    #[inline]
+    pub fn count(&self) -> usize
+        ensures { result ≡ entries self.now }
+    {
+        self.count
+    }
+
     /// For how many watches more there is room.
     #[inline]
     pub fn left(&self) -> usize

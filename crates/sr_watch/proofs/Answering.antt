@@ -1,6 +1,6 @@
 -- What the answers of propagation mean.
 use Rattle.std.proofs.Common.{◌≡◌, ◌≢◌, ◌<◌, ◌≤◌, ◌+◌, ◌⊎◌, inl, inr, ℕ, suc, zero, true, false, ◌==◌, List, [], ◌∷◌, ◌++◌, Option, Some, None, refl, sym, ◌∙◌, ap, subst, arith, add-one, length, get_or, take, take_all}
-use Rattle.std.proofs.lemmas.List.{take_more, take-append-le, length-take}
+use Rattle.std.proofs.lemmas.List.{take_more}
 use Rattle.std.proofs.lemmas.Bool.Decides.{nat_tests}
 use Rattle.sr_base.specs.Literal.{Literal, plus, minus, complement, same, has}
 use Rattle.sr_base.proofs.Literals.{same_tells, has_append, complement_twice}
@@ -13,14 +13,12 @@ use Rattle.sr_watch.specs.declared.parts.Part.TheVariants.{Core, All}
 use Rattle.sr_watch.specs.declared.parts.Found.{Found}
 use Rattle.sr_watch.specs.declared.parts.Found.TheVariants.{Still, Conflict, Pair}
 use Rattle.sr_watch.specs.Parts.{counts}
-use Rattle.sr_watch.specs.State.{Slot, State, slot_at, lits_at, lit_at, reason_at, IsOfPart, IsAttached, clauses_of, assumed_in, assumed, held_cells, AllFalse, IsSound}
-use Rattle.sr_watch.specs.Changes.{Derives, AreReordered}
+use Rattle.sr_watch.specs.State.{State, slot_at, lits_at, lit_at, reason_at, IsOfPart, IsAttached, clauses_of, assumed_in, assumed, AllFalse, IsSound}
 use Rattle.sr_watch.specs.Meaning.{HasReasonsOf, IsStill, IsConflict, IsPair, Means, IsLeast}
 use Rattle.sr_watch.specs.Scanning.{IsDerivedPair}
-use Rattle.sr_watch.specs.Running.{pushed, FindsSelf, IsNext, IsNothing, IsFalse}
+use Rattle.sr_watch.specs.Running.{FindsSelf, IsNothing, IsFalse}
 use Rattle.sr_watch.proofs.Clauses.{closed_one, one_empty}
 use Rattle.sr_watch.proofs.Looking.{in_take}
-use Rattle.sr_watch.proofs.Growing.{assumed_push, sound_derive}
 
 -- a literal of the list is assumed, or its entry has a reason
 pub assumed_or : (ls : List Literal) (rs : List ℕ) (k : Literal) → length rs ≡ length ls → has k ls ≡ true → (has k (assumed_in ls rs) ≡ true) ⊎ ((i : ℕ) × (i < length ls) × (get_or ls i (plus 0) ≡ k) × (get_or rs i 0 ≢ 0))
@@ -157,38 +155,3 @@ pair_push a l p n = by_test (has_pair (a ++ l ∷ [])) (λ t. absurd (no (pair_t
         by_test (has (complement w.0) a)
         (λ u. let q : has (complement l) a ≡ true = subst (λ j. has (complement j) a ≡ true) (sym is) u in absurd cc)
         (λ u. let it : l ≡ complement w.0 = grind (arith, has_append (complement w.0) a (l ∷ []), w.2, same_tells l (complement w.0)) in other w.0 (sym is ∙ it)))
-
--- what propagation keeps over its loop
-pub record Running (old s : State) : Type 0 where
-  pub derives : Derives old s
-  pub sound : IsSound s
-  pub no_pair : has_pair s.lits ≡ false
-  pub cells : held_cells s ≡ held_cells old
-
-pub reordered_same : (ss : List Slot) → AreReordered ss ss
-reordered_same ss = record { each = λ r. record { held = refl; number = refl; part = refl; size = refl; set = λ l. refl } }
-
-pub derives_start : (s : State) → Derives s s
-derives_start s = record { clauses = reordered_same s.slots; lits = take_all (length s.lits) s.lits (omega arith); reasons = take_all (length s.reasons) s.reasons (omega arith); assumed = refl; rest = refl }
-
-take_length : {A : Type 0} (n : ℕ) (xs ys : List A) → take n xs ≡ ys → n ≡ length ys → n ≤ length xs
-take_length n xs ys e h = omega (arith, ap length e, length-take n xs)
-
-derives_more : (old s : State) (l : Literal) (r : ℕ) → Derives old s → IsSound s → 0 < r → Derives old (pushed s l r)
-derives_more old s l r d sound h =
-    let some : (r == 0) ≡ false = grind (arith, nat_tests) in
-    record {
-      clauses = d.clauses;
-      lits = take-append-le (length old.lits) s.lits (l ∷ []) (take_length (length old.lits) s.lits old.lits d.lits refl) ∙ d.lits;
-      reasons = take-append-le (length old.reasons) s.reasons (r ∷ []) (take_length (length old.reasons) s.reasons old.reasons d.reasons refl) ∙ d.reasons;
-      assumed = rw (assumed_push s.lits s.reasons l r sound.sizes, some) d.assumed;
-      rest = ap (λ (x : State). record x { lits = s.lits ++ l ∷ []; reasons = s.reasons ++ r ∷ [] }) d.rest;
-    }
-
-pub running_more : (old s : State) (l : Literal) (r : ℕ) → Running old s → IsNext s l r → Running old (pushed s l r)
-running_more old s l r run next = record {
-  derives = derives_more old s l r run.derives run.sound next.some;
-  sound = sound_derive s l r run.sound next;
-  no_pair = pair_push s.lits l run.no_pair next.open_here.not_false;
-  cells = run.cells;
-}

@@ -1,6 +1,9 @@
 -- What stays true of a propagator's fields.
-use Rattle.std.proofs.Common.{◌≡◌, ◌≢◌, ◌<◌, ◌≤◌, ◌+◌, ◌*◌, ℕ, suc, zero, Bool, true, false, ◌==◌, List, [], ◌∷◌, ◌++◌, Some, None, refl, sym, ◌∙◌, ap, subst, arith, length, get_or, take}
+use Rattle.std.proofs.Common.{max, Result, Ok, Err, OnOk, OnErr, ◌≡◌, ◌≢◌, ◌<◌, ◌≤◌, ℕ, suc, zero, Bool, true, false, ◌==◌, List, [], ◌∷◌, ◌++◌, refl, sym, ◌∙◌, ap, subst, arith, length, get_or, take}
 use Rattle.sr_base.specs.Literal.{Literal}
+use Rattle.sr_base.specs.declared.literal.TheConstants.{MOST_VARS}
+use Rattle.sr_base.specs.declared.lists.NoMemory.{NoMemory}
+use Rattle.sr_watch.specs.Trail.{Entries}
 use Rattle.sr_arena.specs.Cells.{Memory, Cell, cell_at, gone}
 use Rattle.std.proofs.lemmas.List.{length-append, get_or_append_left, get_or_at}
 use Rattle.std.proofs.lemmas.Bool.Decides.{nat_tests}
@@ -8,22 +11,15 @@ use Rattle.sr_base.specs.Literal.{variable, has, NoRepeats}
 use Rattle.sr_arena.specs.Cells as arena
 use Rattle.sr_model.specs.Assignment.{holds_number}
 use Rattle.sr_model.proofs.Soundness.{by_test}
-use Rattle.sr_watch.specs.declared.parts.Part.{Part}
 use Rattle.sr_watch.specs.declared.parts.Part.TheVariants.{All}
-use Rattle.sr_watch.specs.declared.scanning.Next.{Next}
-use Rattle.sr_watch.specs.declared.scanning.Next.TheVariants.{Nothing, Falsified, Forces}
 use Rattle.sr_watch.specs.Parts.{counts}
-use Rattle.sr_watch.specs.State.{Slot, State, IsSound, slot_in, lits_at, no_clause, held_clause, held_cells, assumed_in, AreWithin, IsAttached, IsHeld, IsForcedBy, AllFalse}
-use Rattle.sr_watch.specs.Changes.{with_part, IsAdded}
-use Rattle.sr_watch.specs.Inside.{state_of, slot_of, slots_of, most_entries, AreKnown, IsKept}
-use Rattle.sr_watch.specs.Scanning.{IsSettled, AreSettled, counts_at, Finds}
-use Rattle.sr_watch.specs.Running.{IsNext, FindsNext, AreAttached}
+use Rattle.sr_watch.specs.State.{Slot, State, IsSound, slot_in, no_clause, held_clause, held_cells, assumed_in, AreWithin, IsAttached, IsHeld}
+use Rattle.sr_watch.specs.Changes.{IsAdded}
+use Rattle.sr_watch.specs.Inside.{state_of, slot_of, slots_of, AreKnown, IsKept}
+use Rattle.sr_watch.specs.Running.{AreAttached}
 use Rattle.sr_watch.proofs.Entries.{by_eq}
-use Rattle.sr_watch.proofs.Bounds.{few_entries}
-use Rattle.sr_watch.proofs.Growing.{StandFor, sound_assume, sound_derive, sound_cut, sound_clauses, derived_once_push, derived_once_assume, derived_once_cut}
-use Rattle.sr_watch.proofs.Slots.{slot_is, weights_are, stand_some, stand_none, known_same, held_is, knows_push}
-use Rattle.sr_watch.proofs.Clauses.{closed_all, none_empty}
-use Rattle.sr_watch.proofs.Answering.{attached_of}
+use Rattle.sr_watch.proofs.Growing.{sound_assume, sound_cut, sound_clauses, derived_once_assume, derived_once_cut}
+use Rattle.sr_watch.proofs.Slots.{slot_is, weights_are, knows_push}
 
 none_at : (r : ℕ) → get_or (no_clause ∷ []) r no_clause ≡ no_clause
 none_at zero = refl
@@ -51,29 +47,11 @@ kept_new most = record {
   listed = record { held = λ i lt. absurd (omega arith); all = λ r. rw (gone_at r) (λ h. absurd cc) };
 }
 
-pub kept_bound : (v : ℕ) (m : Memory) (known : List ℕ) (ls : List Literal) (rs : List ℕ) → IsKept v m known ls rs → length ls ≤ 4 * v + 4
-kept_bound v m known ls rs k = few_entries v ls rs k.sound.sizes k.sound.within k.sound.once k.derived_once
-
--- there is room for an entry
-pub room_left : (v : ℕ) (ls : List Literal) (l : Literal) (cap : ℕ) → length (ls ++ l ∷ []) ≤ 4 * v + 4 → 0 < v → most_entries v ≤ cap → length ls < cap
-room_left v ls l cap le some c =
-    let f : (v == 0) ≡ false = grind (arith, nat_tests) in
-    let c' : 4 * v + 4 ≤ cap = rw f at c in
-    omega (arith, length-append ls (l ∷ []))
-
 pub kept_assume : (v : ℕ) (m : Memory) (known : List ℕ) (ls : List Literal) (rs : List ℕ) (l : Literal) → IsKept v m known ls rs → variable l ≤ v → has l (assumed_in ls rs) ≡ false → IsKept v m known (ls ++ l ∷ []) (rs ++ 0 ∷ [])
 kept_assume v m known ls rs l k h new = record {
   fits = k.fits;
   sound = sound_assume (state_of v m ls rs) l k.sound h new;
   derived_once = derived_once_assume ls rs l k.sound.sizes k.derived_once;
-  listed = k.listed;
-}
-
-pub kept_derive : (v : ℕ) (m : Memory) (known : List ℕ) (ls : List Literal) (rs : List ℕ) (l : Literal) (r : ℕ) → IsKept v m known ls rs → IsNext (state_of v m ls rs) l r → IsKept v m known (ls ++ l ∷ []) (rs ++ r ∷ [])
-kept_derive v m known ls rs l r k n = record {
-  fits = k.fits;
-  sound = sound_derive (state_of v m ls rs) l r k.sound n;
-  derived_once = derived_once_push ls rs l r k.sound.sizes n.open_here.not_true k.derived_once;
   listed = k.listed;
 }
 
@@ -84,28 +62,6 @@ kept_cut v m known ls rs n le k = record {
   derived_once = derived_once_cut n ls rs k.derived_once;
   listed = k.listed;
 }
-
-kept_slots : (v : ℕ) (m n : Memory) (known : List ℕ) (ls : List Literal) (rs : List ℕ) (ss : List Slot) → IsKept v m known ls rs → slots_of n ≡ ss → n.most ≡ m.most → StandFor (state_of v m ls rs) ss → AreKnown n known → IsKept v n known ls rs
-kept_slots v m n known ls rs ss k e most f a = record {
-  fits = k.fits;
-  sound = subst IsSound (ap (λ x. record { vars = v; most = x; slots = ss; lits = ls; reasons = rs }) (sym most) ∙ ap (λ x. record { vars = v; most = n.most; slots = x; lits = ls; reasons = rs }) (sym e)) (remost (sound_clauses (state_of v m ls rs) ss k.sound f));
-  derived_once = k.derived_once;
-  listed = a;
-}
-  where
-    remost : IsSound (record (state_of v m ls rs) { slots = ss }) → IsSound (record { vars = v; most = m.most; slots = ss; lits = ls; reasons = rs })
-    remost s = s
-
-held_slot : (v : ℕ) (m : Memory) (ls : List Literal) (rs : List ℕ) (at : ℕ) → arena.IsHeld m at → IsHeld (state_of v m ls rs) at
-held_slot v m ls rs at h = ap (λ (c : Slot). c.held) (slot_is m at) ∙ h
-
-pub kept_some : (v : ℕ) (m n : Memory) (known : List ℕ) (ls : List Literal) (rs : List ℕ) (at : ℕ) (p : Part) → IsKept v m known ls rs → arena.IsHeld m at → slots_of n ≡ with_part (slots_of m) at (Some p) → n.most ≡ m.most → IsKept v n known ls rs
-kept_some v m n known ls rs at p k h e most = kept_slots v m n known ls rs (with_part (slots_of m) at (Some p)) k e most
-    (stand_some (state_of v m ls rs) at p k.sound (held_slot v m ls rs at h)) (known_same m n known (held_is m n at (Some p) h e) k.listed)
-
-pub kept_none : (v : ℕ) (m n : Memory) (known : List ℕ) (ls : List Literal) (rs : List ℕ) (at : ℕ) → IsKept v m known ls rs → arena.IsHeld m at → ((i : ℕ) → i < length ls → get_or rs i 0 ≢ at) → slots_of n ≡ with_part (slots_of m) at None → n.most ≡ m.most → IsKept v n known ls rs
-kept_none v m n known ls rs at k h free e most = kept_slots v m n known ls rs (with_part (slots_of m) at None) k e most
-    (stand_none (state_of v m ls rs) at k.sound (held_slot v m ls rs at h) free) (known_same m n known (held_is m n at None h e) k.listed)
 
 -- a clause that was added
 pub slots_added : (m n : Memory) (at : ℕ) (lits : List Literal) (number : ℕ) → arena.IsAdded m n at (arena.fresh lits number) → (r : ℕ) → r ≢ at → slot_in (slots_of n) r ≡ slot_in (slots_of m) r
@@ -173,45 +129,6 @@ cells_are v m ls rs = sym (weights_are m.cells)
 pub held_in : (v : ℕ) (m : Memory) (known : List ℕ) (ls : List Literal) (rs : List ℕ) (at : ℕ) → IsKept v m known ls rs → IsAttached (state_of v m ls rs) at → arena.IsHeld m at
 held_in v m known ls rs at k h = sym (ap (λ (c : Slot). c.held) (slot_is m at)) ∙ k.sound.held at h
 
--- where a number stands
-index_of : (r : ℕ) (known : List ℕ) → holds_number r known ≡ true → (i : ℕ) × (i < length known) × (get_or known i 0 ≡ r)
-index_of r [] h = absurd cc
-index_of r (k ∷ known) h = by_test (k == r)
-    (λ t. (0, omega arith, grind (arith, nat_tests)))
-    (λ f. let w = index_of r known (rw f at h) in (suc w.0, omega (arith, w.1), w.2))
-
--- what a scan finds
-settled_at : (v : ℕ) (m : Memory) (known : List ℕ) (ls : List Literal) (rs : List ℕ) (p : Part) → IsKept v m known ls rs → AreSettled m p known ls (length known) → (r : ℕ) → counts p (slot_in (slots_of m) r).part ≡ true → IsSettled ls (slot_in (slots_of m) r).lits
-settled_at v m known ls rs p k f r h =
-    let w = index_of r known (k.listed.all r (held_in v m known ls rs r k (attached_of p (state_of v m ls rs) r h))) in
-    let c : counts_at m p r ≡ true = subst (λ (x : Slot). counts p x.part ≡ true) (slot_is m r) h in
-    let g : IsSettled ls (cell_at m (get_or known w.0 0)).lits = f w.0 w.1 (subst (λ j. counts_at m p j ≡ true) (sym w.2) c) in
-    subst (λ (x : Slot). IsSettled ls x.lits) (sym (slot_is m r)) (subst (λ j. IsSettled ls (cell_at m j).lits) w.2 g)
-
-pub finds_next : (v : ℕ) (m : Memory) (known : List ℕ) (ls : List Literal) (rs : List ℕ) (p : Part) (x : Next) → IsKept v m known ls rs → Finds m p known ls x → FindsNext p (state_of v m ls rs) x
-finds_next v m known ls rs p Nothing k f = record {
-  closed = closed_all p (slots_of m) ls (λ r h. (settled_at v m known ls rs p k f r h).closed);
-  none_empty = none_empty p (slots_of m) (λ r h. (settled_at v m known ls rs p k f r h).some);
-}
-finds_next v m known ls rs p (Falsified at) k f = record {
-  of_part = subst (λ (x : Slot). counts p x.part ≡ true) (sym (slot_is m at)) f.of_part;
-  all_false = subst (λ (x : Slot). AllFalse ls x.lits) (sym (slot_is m at)) f.all_false;
-}
-finds_next v m known ls rs p (Forces l at) k f =
-    let mine : counts p (slot_in (slots_of m) at).part ≡ true = subst (λ (x : Slot). counts p x.part ≡ true) (sym (slot_is m at)) f.of_part in (
-      record {
-        some = f.some;
-        attached = attached_of p (state_of v m ls rs) at mine;
-        forced = subst (λ (x : Slot). IsForcedBy x.lits ls l) (sym (slot_is m at)) f.single.forced;
-        open_here = f.single.open_here;
-      },
-      mine,
-    )
-
--- the literals of memory's clauses are distinct
-pub distinct_in : (v : ℕ) (m : Memory) (known : List ℕ) (ls : List Literal) (rs : List ℕ) → IsKept v m known ls rs → (r : ℕ) → NoRepeats (cell_at m r).lits
-distinct_in v m known ls rs k r = subst (λ (x : Slot). NoRepeats x.lits) (slot_is m r) (k.sound.distinct r)
-
 -- attached clauses by place
 pub attached_at : (s : State) (hs : List ℕ) (i h : ℕ) → i < length hs → h ≡ get_or hs i h → AreAttached s hs → IsAttached s h
 attached_at s [] i h lt e a = absurd (omega arith)
@@ -221,5 +138,18 @@ attached_at s (x ∷ hs) (suc i) h lt e a = attached_at s hs i h (omega arith) e
 pub held_back : (v : ℕ) (m : Memory) (ls : List Literal) (rs : List ℕ) (at : ℕ) → IsHeld (state_of v m ls rs) at → arena.IsHeld m at
 held_back v m ls rs at h = sym (ap (λ (c : Slot). c.held) (slot_is m at)) ∙ h
 
-pub lits_is : (v : ℕ) (m : Memory) (ls : List Literal) (rs : List ℕ) (s : State) (at : ℕ) → state_of v m ls rs ≡ s → lits_at s at ≡ (cell_at m at).lits
-lits_is v m ls rs s at e = sym (ap (λ (x : State). lits_at x at) e) ∙ ap (λ (c : Slot). c.lits) (slot_is m at)
+-- more variables
+pub kept_wider : (v w : ℕ) (m : Memory) (known : List ℕ) (ls : List Literal) (rs : List ℕ) → v ≤ w → w ≤ MOST_VARS → IsKept v m known ls rs → IsKept w m known ls rs
+kept_wider v w m known ls rs le fits k =
+    let x = k.sound in
+    record {
+      fits = fits;
+      sound = record { sizes = x.sizes; within = λ l h. omega (arith, le, x.within l h); clauses_within = λ r l h. omega (arith, le, x.clauses_within r l h); distinct = x.distinct; held = x.held; once = x.once; attached = x.attached; forced = x.forced; news = x.news };
+      derived_once = k.derived_once;
+      listed = k.listed;
+    }
+
+-- entries with room for more variables, or none of it
+pub grown_entries : (P : Entries → Type 0) (a b : Entries) (r : Result Unit NoMemory) (v : ℕ) → a.vars < v → OnOk r (b ≡ record a { vars = max a.vars v }) → OnErr r (b ≡ a) → P (record a { vars = v }) → P a → P b
+grown_entries P a b (Ok u) v lt ok err wide here = let is : max a.vars v ≡ v = omega (arith, lt) in subst P (sym (ap (λ n. record a { vars = n }) is) ∙ sym ok) wide
+grown_entries P a b (Err e) v lt ok err wide here = subst P (sym err) here

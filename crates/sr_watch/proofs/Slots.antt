@@ -1,5 +1,5 @@
 -- Clauses by reference, as the memory keeps them and as contracts see them.
-use Rattle.std.proofs.Common.{◌≡◌, ◌≢◌, ◌<◌, ◌≤◌, ◌+◌, ℕ, suc, zero, true, false, cond, ◌==◌, List, [], ◌∷◌, ◌++◌, Option, Some, None, refl, sym, ◌∙◌, ap, arith, length, get_or, set, get_or-set_other}
+use Rattle.std.proofs.Common.{Bool, ◌≡◌, ◌≢◌, ◌+◌, ℕ, suc, zero, true, cond, ◌==◌, List, [], ◌∷◌, ◌++◌, Option, refl, sym, ◌∙◌, ap, arith, get_or, set, get_or-set_other}
 use Rattle.std.specs.Prelude.{map}
 use Rattle.std.proofs.Math.ListN.{get_or-map}
 use Rattle.std.proofs.lemmas.List.{map-set, set-set}
@@ -10,12 +10,10 @@ use Rattle.sr_model.specs.Assignment.{holds_number}
 use Rattle.sr_model.proofs.Soundness.{by_test}
 use Rattle.sr_watch.specs.declared.parts.Part.{Part}
 use Rattle.sr_watch.specs.declared.parts.Part.TheVariants.{Core, All}
-use Rattle.sr_watch.specs.Parts.{is_core, counts}
-use Rattle.sr_watch.specs.State.{Slot, State, slot_in, reason_at, weights, no_clause, IsHeld, IsSound}
+use Rattle.sr_watch.specs.Parts.{is_core}
+use Rattle.sr_watch.specs.State.{Slot, slot_in, weights, no_clause}
 use Rattle.sr_watch.specs.Changes.{with_part}
-use Rattle.sr_watch.specs.Inside.{slot_of, slots_of, AreKnown}
-use Rattle.sr_watch.proofs.Entries.{by_eq}
-use Rattle.sr_watch.proofs.Growing.{StandFor}
+use Rattle.sr_watch.specs.Inside.{part_of, slot_of, slots_of, AreKnown}
 
 -- what stands under a reference
 pub slot_is : (m : Memory) (r : ℕ) → slot_in (slots_of m) r ≡ slot_of (cell_at m r)
@@ -29,34 +27,21 @@ weights_are [] = refl
 weights_are (c ∷ cs) = ap (λ x. arena.weight c + x) (weights_are cs)
 
 -- the marks say the part
-core_or_all : (p : Part) → cond (is_core p) Core All ≡ p
+pub core_or_all : (p : Part) → cond (is_core p) Core All ≡ p
 core_or_all Core = refl
 core_or_all All = refl
 
-pub part_none : (m : Memory) (at : ℕ) → slots_of (put m at (record (cell_at m at) { marked = false })) ≡ with_part (slots_of m) at None
-part_none m at = slots_put m at (record (cell_at m at) { marked = false }) ∙ ap (λ (c : Slot). set (slots_of m) at (record c { part = None })) (sym (slot_is m at))
-
-pub part_some : (m : Memory) (at : ℕ) (p : Part) → arena.IsHeld m at
-    → slots_of (put (put m at (record (cell_at m at) { flagged = is_core p })) at (record (cell_at (put m at (record (cell_at m at) { flagged = is_core p })) at) { marked = true })) ≡ with_part (slots_of m) at (Some p)
-part_some m at p h =
-    let c1 : Cell = record (cell_at m at) { flagged = is_core p } in
-    let c2 : Cell = record c1 { marked = true } in
+pub part_set : (m : Memory) (at : ℕ) (p : Option Part) (mark flag : Bool) → part_of mark flag ≡ p → arena.IsHeld m at
+    → slots_of (put (put m at (record (cell_at m at) { flagged = flag })) at (record (cell_at (put m at (record (cell_at m at) { flagged = flag })) at) { marked = mark })) ≡ with_part (slots_of m) at p
+part_set m at p mark flag is h =
+    let c1 : Cell = record (cell_at m at) { flagged = flag } in
+    let c2 : Cell = record c1 { marked = mark } in
     let here : cell_at (put m at c1) at ≡ c1 = put_here m at c1 h in
     let one : slots_of (put (put m at c1) at c2) ≡ set (slots_of m) at (slot_of c2) = slots_put (put m at c1) at c2 ∙ ap (λ x. set x at (slot_of c2)) (slots_put m at c1) ∙ set-set (slots_of m) at (slot_of c1) (slot_of c2) in
-    let two : slot_of c2 ≡ record (slot_in (slots_of m) at) { part = Some p } = rw (slot_is m at) (ap (λ (q : Part). record (slot_of (cell_at m at)) { part = Some q }) (core_or_all p)) in
-    ap (λ (c : Cell). slots_of (put (put m at c1) at (record c { marked = true }))) here ∙ one ∙ ap (set (slots_of m) at) two
+    let two : slot_of c2 ≡ record (slot_in (slots_of m) at) { part = p } = rw (slot_is m at) (ap (λ (q : Option Part). record (slot_of (cell_at m at)) { part = q }) is) in
+    ap (λ (c : Cell). slots_of (put (put m at c1) at (record c { marked = mark }))) here ∙ one ∙ ap (set (slots_of m) at) two
 
 -- another part changes nothing else
-record SamePlace (old new : Slot) : Type 0 where
-  held : new.held ≡ old.held
-  lits : new.lits ≡ old.lits
-  number : new.number ≡ old.number
-
-past : {A : Type 0} (xs : List A) (at : ℕ) (x d : A) → length xs ≤ at → set xs at x ≡ xs
-past [] at x d le = refl
-past (y ∷ xs) zero x d le = absurd (omega arith)
-past (y ∷ xs) (suc at) x d le = ap (λ ys. y ∷ ys) (past xs at x d (omega arith))
-
 pub part_here : (ss : List Slot) (at : ℕ) (p : Option Part) → (slot_in ss at).held ≡ true → slot_in (with_part ss at p) at ≡ record (slot_in ss at) { part = p }
 part_here [] at p h = absurd cc
 part_here (c ∷ ss) zero p h = refl
@@ -65,57 +50,12 @@ part_here (c ∷ ss) (suc at) p h = part_here ss at p h
 pub part_other : (ss : List Slot) (at r : ℕ) (p : Option Part) → r ≢ at → slot_in (with_part ss at p) r ≡ slot_in ss r
 part_other ss at r p ne = get_or-set_other ss at r (record (slot_in ss at) { part = p }) no_clause ne
 
-same_place : (ss : List Slot) (at r : ℕ) (p : Option Part) → (slot_in ss at).held ≡ true → SamePlace (slot_in ss r) (slot_in (with_part ss at p) r)
-same_place ss at r p h = by_eq r at
-    (λ e. rw (e, part_here ss at p h) (record { held = refl; lits = refl; number = refl }))
-    (λ ne. rw (part_other ss at r p ne) (record { held = refl; lits = refl; number = refl }))
-
-pub lits_same : (ss : List Slot) (at r : ℕ) (p : Option Part) → (slot_in ss at).held ≡ true → (slot_in (with_part ss at p) r).lits ≡ (slot_in ss r).lits
-lits_same ss at r p h = (same_place ss at r p h).lits
-
-pub held_same : (ss : List Slot) (at r : ℕ) (p : Option Part) → (slot_in ss at).held ≡ true → (slot_in (with_part ss at p) r).held ≡ (slot_in ss r).held
-held_same ss at r p h = (same_place ss at r p h).held
-
--- a clause that is attached to a part stands for the entries
-pub stand_some : (s : State) (at : ℕ) (p : Part) → IsSound s → IsHeld s at → StandFor s (with_part s.slots at (Some p))
-stand_some s at p sound h = record {
-  within = λ r. rw (lits_same s.slots at r (Some p) h) (sound.clauses_within r);
-  distinct = λ r. rw (lits_same s.slots at r (Some p) h) (sound.distinct r);
-  held = λ r. by_eq r at
-      (λ e. λ a. rw (held_same s.slots at r (Some p) h, e) h)
-      (λ ne. rw (part_other s.slots at r (Some p) ne) (sound.held r));
-  reasons = λ i lt d. by_eq (reason_at s i) at
-      (λ e. rw (e, part_here s.slots at (Some p) h) (all_count p))
-      (λ ne. rw (part_other s.slots at (reason_at s i) (Some p) ne) (sound.attached i lt d));
-  lits = λ i lt d. lits_same s.slots at (reason_at s i) (Some p) h;
-}
-  where
-    all_count : (q : Part) → counts All (Some q) ≡ true
-    all_count q = refl
-
--- and so does one that isn't any more, where it is no reason
-pub stand_none : (s : State) (at : ℕ) → IsSound s → IsHeld s at → ((i : ℕ) → i < length s.lits → reason_at s i ≢ at) → StandFor s (with_part s.slots at None)
-stand_none s at sound h others = record {
-  within = λ r. rw (lits_same s.slots at r None h) (sound.clauses_within r);
-  distinct = λ r. rw (lits_same s.slots at r None h) (sound.distinct r);
-  held = λ r. by_eq r at
-      (λ e. λ a. rw (held_same s.slots at r None h, e) h)
-      (λ ne. rw (part_other s.slots at r None ne) (sound.held r));
-  reasons = λ i lt d. rw (part_other s.slots at (reason_at s i) None (others i lt)) (sound.attached i lt d);
-  lits = λ i lt d. lits_same s.slots at (reason_at s i) None h;
-}
-
 -- the same clauses are known
 pub known_same : (m n : Memory) (known : List ℕ) → ((r : ℕ) → (cell_at n r).held ≡ (cell_at m r).held) → AreKnown m known → AreKnown n known
 known_same m n known same k = record {
   held = λ i lt. same (get_or known i 0) ∙ k.held i lt;
   all = λ r h. k.all r (sym (same r) ∙ h);
 }
-
-pub held_is : (m n : Memory) (at : ℕ) (p : Option Part) → arena.IsHeld m at → slots_of n ≡ with_part (slots_of m) at p → (r : ℕ) → (cell_at n r).held ≡ (cell_at m r).held
-held_is m n at p h e r =
-    let mine : (slot_in (slots_of m) at).held ≡ true = ap (λ (c : Slot). c.held) (slot_is m at) ∙ h in
-    sym (ap (λ (c : Slot). c.held) (slot_is n r)) ∙ ap (λ x. (slot_in x r).held) e ∙ held_same (slots_of m) at r p mine ∙ ap (λ (c : Slot). c.held) (slot_is m r)
 
 -- a clause that is known
 pub knows_push : (r at : ℕ) (known : List ℕ) → holds_number r known ≡ true → holds_number r (known ++ at ∷ []) ≡ true

@@ -8,3 +8,10 @@ pub mod Scanning
 pub mod Running
 pub mod Trail
 pub mod Marks
+pub mod Watching
+pub mod Walking
+pub mod Resting
+pub mod Rising
+pub mod Attaching
+pub mod Purging
+pub mod Parting

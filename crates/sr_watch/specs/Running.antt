@@ -6,8 +6,6 @@ use Rattle.sr_model.specs.Substitution.{has_pair}
 use Rattle.sr_watch.specs.declared.parts.Part.{Part}
 use Rattle.sr_watch.specs.declared.parts.Found.{Found}
 use Rattle.sr_watch.specs.declared.parts.Found.TheVariants.{Still, Conflict, Pair}
-use Rattle.sr_watch.specs.declared.scanning.Next.{Next}
-use Rattle.sr_watch.specs.declared.scanning.Next.TheVariants.{Nothing, Falsified, Forces}
 use Rattle.sr_watch.specs.State.{State, lit_at, reason_at, lits_at, IsOfPart, IsAttached, clauses_of, assumed_in, assumed, AllFalse, IsForcedBy, IsOpen}
 use Rattle.sr_watch.specs.Scanning.{IsDerivedPair}
 use Rattle.sr_watch.specs.Lean.{stands_in}
@@ -37,12 +35,6 @@ pub record IsNothing (p : Part) (s : State) : Type 0 where
 pub record IsFalse (p : Part) (s : State) (at : ℕ) : Type 0 where
   pub of_part : IsOfPart s p at
   pub all_false : AllFalse s.lits (lits_at s at)
-
--- what the clauses of a part say next
-abbrev pub FindsNext : Part → State → Next → Type 0
-FindsNext p s Nothing = IsNothing p s
-FindsNext p s (Falsified at) = IsFalse p s at
-FindsNext p s (Forces l at) = IsNext s l at × IsOfPart s p at
 
 -- the clause that a chain is asked for
 abbrev pub asked_clause : Found → ℕ

@@ -4,14 +4,22 @@
 //! entries before. Clauses are held under references, and those that are attached propagate.
 #![tactic(auto)]
 
+mod attaching;
 mod chains;
+mod closing;
+mod examining;
 mod marks;
+mod parting;
 mod parts;
 mod propagator;
+mod purging;
 mod scanning;
+mod settling;
 #[cfg(test)]
 mod tests;
 mod trail;
+mod walking;
+mod watches;
 
 pub use parts::{Found, Part};
 pub use propagator::Propagator;

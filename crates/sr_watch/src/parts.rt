@@ -1,7 +1,6 @@
 // Parts of the clauses, and what propagation finds.
-ghost use Rattle.std.specs.Prelude.{◌≡◌, Bool, Option};
-ghost use Rattle.sr_watch.specs.Parts.{counts, is_core};
-ghost use Rattle.sr_watch.specs.Inside.{part_of};
+ghost use Rattle.std.specs.Prelude.{◌≡◌};
+ghost use Rattle.sr_watch.specs.Parts.{is_core};
 
 use sr_arena::Cref;
 use sr_base::Lit;
@@ -23,16 +22,6 @@ impl Part {
         match self {
             Part::Core => true,
             Part::All => false,
-        }
-    }
-
-    /// Whether a clause with this mark and this flag counts for the part.
-    pub(crate) fn takes(self, marked: bool, flagged: bool) -> bool
-        ensures { result ≡ counts self (part_of marked flagged) }
-    {
-        match self {
-            Part::Core => marked && flagged,
-            Part::All => marked,
         }
     }
 }

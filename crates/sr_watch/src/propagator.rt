@@ -1,21 +1,25 @@
 // The propagator.
-ghost use Rattle.std.specs.Prelude.{ℕ, ◌≡◌, ◌≢◌, ◌≤◌, ◌<◌, ◌+◌, ◌*◌, ◌↔◌, [], ◌∷◌, ◌++◌, length, true, None, Some, max, reverse, vec_capacity, IsTrue, IsOk, OnOk, OnErr, IfOk, IfErr, MatchOption};
+ghost use Rattle.std.specs.Prelude.{ℕ, List, ◌≡◌, ◌≢◌, ◌≤◌, ◌<◌, ◌+◌, ◌*◌, ◌↔◌, [], ◌∷◌, ◌++◌, length, true, None, Some, max, reverse, vec_capacity, IsTrue, IsOk, OnOk, OnErr, IfOk, IfErr, MatchOption};
 ghost use Rattle.sr_base.specs.Literal.{complement, has, variable, NoRepeats, SameSet};
 ghost use Rattle.sr_arena.specs.Cells.{reference};
 ghost use Rattle.sr_watch.specs.State.{no_clause, held_clause, slot_at, lits_at, reason_at, AllFalse, IsHeld, IsAttached, held_cells, AreWithin, assumed, value_in, reason_in, IsSound};
 ghost use Rattle.sr_watch.specs.Changes.{IsAdded, with_part, cut_to, with_assumed, AreReordered, IsAttachedTo, IsDetached, Derives};
 ghost use Rattle.sr_watch.specs.Meaning.{Means, IsLeast, IsAsked};
 ghost use Rattle.sr_watch.specs.Lean.{IsChain, stands_in};
-ghost use Rattle.sr_watch.specs.Running.{pushed, FindsNext, FindsSelf, IsNext, asked_clause, ClosesAt, AreAttached, IsSpare, IsUsed};
-ghost use Rattle.sr_watch.specs.Inside.{slots_of, most_entries};
-ghost use Rattle.sr_arena.specs.Cells as arena;
+ghost use Rattle.sr_watch.specs.Running.{FindsSelf, asked_clause, ClosesAt, AreAttached, IsSpare, IsUsed};
+ghost use Rattle.sr_arena.specs.Cells.{Memory};
+ghost use Rattle.sr_watch.specs.Trail.{first_entries};
+ghost use Rattle.sr_watch.specs.Resting.{AreWatched};
 ghost use Rattle.sr_base.specs.declared.literal.TheConstants.{MOST_VARS};
 
 use crate::chains::{assumed_pair, collect, first_clash};
+use crate::closing::close_part;
 use crate::marks::Marks;
+use crate::parting::{attach_to, forget, freshen, set_part};
 use crate::parts::{Found, Part};
-use crate::scanning::{Next, place_of, reason_of, scan, value_of};
+use crate::scanning::{place_of, reason_of, value_of};
 use crate::trail::Trail;
+use crate::watches::Watches;
 use sr_arena::{ClauseMem, Cref, CrefList, Steps};
 use sr_base::{AddError, Limits, Lit, NoMemory, has};
 use std::alloc::Global;
@@ -35,6 +39,8 @@ pub struct Propagator {
     trail: Trail,
     /// The literals whose entries a chain stands on; none between calls.
     needed: Marks,
+    core: Watches,
+    rest: Watches,
 }
 
 impl Model for Propagator {
@@ -42,6 +48,7 @@ impl Model for Propagator {
     ghost use Rattle.sr_watch.specs.State.{State};
     ghost use Rattle.sr_watch.specs.Inside.{state_of, IsKept};
     ghost use Rattle.sr_watch.specs.Marks.{AreReady};
+    ghost use Rattle.sr_watch.specs.Resting.{AreWatched};
     ghost use Rattle.sr_arena.specs.Cells.{held_cells};
     ghost use Rattle.sr_base.specs.declared.limits.TheConstants.{MOST_CELLS};
 
@@ -50,7 +57,8 @@ impl Model for Propagator {
     ghost view = { λ p. state_of p.trail.vars p.memory p.trail.lits p.trail.reasons };
 
     ghost invariant = { λ p. IsKept p.trail.vars p.memory p.known.items p.trail.lits p.trail.reasons × (p.most ≡ p.memory.most)
-        × (p.most ≤ MOST_CELLS) × (p.memory.used ≡ held_cells p.memory) × AreReady p.needed p.trail.vars };
+        × (p.most ≤ MOST_CELLS) × (p.memory.used ≡ held_cells p.memory) × AreReady p.needed p.trail.vars
+        × AreWatched p.memory p.known.items p.trail p.core p.rest };
 }
 
 impl Propagator {
@@ -64,6 +72,8 @@ impl Propagator {
             most: limits.cells(),
             trail: Trail::new(alloc),
             needed: Marks::new(alloc),
+            core: Watches::new(alloc),
+            rest: Watches::new(alloc),
         }
     }
 
@@ -78,6 +88,8 @@ impl Propagator {
             return Ok(());
         }
         self.needed.grow(var)?;
+        self.core.grow(var)?;
+        self.rest.grow(var)?;
         self.trail.grow(var)
     }
 
@@ -106,6 +118,13 @@ impl Propagator {
             return Err(AddError::Cells);
         }
         if self.known.reserve(1).is_err() {
+            return Err(AddError::NoMemory);
+        }
+        let clauses = self.known.len() + 1;
+        if self.core.reserve(clauses).is_err() {
+            return Err(AddError::NoMemory);
+        }
+        if self.rest.reserve(clauses).is_err() {
             return Err(AddError::NoMemory);
         }
         match self.memory.add(lits, number) {
@@ -173,7 +192,21 @@ impl Propagator {
         ensures value { IsAttachedTo self.old self.new at part }
         ensures cells { held_cells self.new ≡ held_cells self.old }
     {
-        set_part(&mut self.memory, at, Some(part));
+        freshen(
+            &mut self.memory,
+            &mut self.core,
+            &mut self.rest,
+            &self.known,
+            at,
+        );
+        attach_to(
+            &mut self.memory,
+            &mut self.core,
+            &mut self.rest,
+            &self.trail,
+            at,
+            part,
+        );
     }
 
     /// Detaches a clause. Where an entry's reason goes and no other takes over, that entry and all after it
@@ -184,7 +217,9 @@ impl Propagator {
         ensures cells { held_cells self.new ≡ held_cells self.old }
     {
         let place = place_of(self.trail.reasons(), at);
-        self.trail.cut(place);
+        cut(&mut self.trail, &mut self.core, &mut self.rest, place);
+        forget(&mut self.core, at);
+        forget(&mut self.rest, at);
         set_part(&mut self.memory, at, None);
     }
 
@@ -194,7 +229,19 @@ impl Propagator {
         ensures value { IsAttachedTo self.old self.new at Part.Core }
         ensures cells { held_cells self.new ≡ held_cells self.old }
     {
-        set_part(&mut self.memory, at, Some(Part::Core));
+        if self.memory.flag(at) {
+            return;
+        }
+        forget(&mut self.rest, at);
+        set_part(&mut self.memory, at, None);
+        attach_to(
+            &mut self.memory,
+            &mut self.core,
+            &mut self.rest,
+            &self.trail,
+            at,
+            Part::Core,
+        );
     }
 
     /// The literals of the entries, in order.
@@ -227,7 +274,7 @@ impl Propagator {
         requires { mark ≤ length self.old.lits }
         ensures { self.new ≡ cut_to self.old mark }
     {
-        self.trail.cut(mark);
+        cut(&mut self.trail, &mut self.core, &mut self.rest, mark);
     }
 
     /// What the first entry of its variable makes a literal; none where it is neither true nor false.
@@ -262,12 +309,16 @@ impl Propagator {
         if let Some(found) = self.against_itself() {
             return found;
         }
-        loop {
-            match self.find_next(part, steps) {
-                Next::Nothing => return Found::Still,
-                Next::Falsified(at) => return Found::Conflict(at),
-                Next::Forces(l, at) => self.derive(l, at),
-            }
+        match close_part(
+            &mut self.memory,
+            &mut self.core,
+            &mut self.rest,
+            &mut self.trail,
+            part,
+            steps,
+        ) {
+            Some(at) => Found::Conflict(at),
+            None => Found::Still,
         }
     }
 
@@ -368,38 +419,19 @@ impl Propagator {
             Some(at) => Some(Found::Conflict(at)),
         }
     }
-
-    /// What the clauses of the part say next.
-    fn find_next<L: Ledger>(&self, part: Part, steps: &mut Steps<L>) -> Next
-        ensures { FindsNext part self.now result }
-    {
-        scan(&self.known, self.trail.lits(), &self.memory, part, steps)
-    }
-
-    /// One more derived entry.
-    fn derive(&mut self, l: Lit, reason: Cref)
-        requires { IsNext self.old l reason }
-        ensures value { self.new ≡ pushed self.old l reason }
-        ensures room { length self.new.lits ≤ 4 * self.new.vars + 4 }
-    {
-        let index = reason.index();
-        self.trail.push(l, index);
-    }
 }
 
-/// Attaches a clause to a part, or to none.
-fn set_part(memory: &mut ClauseMem, at: Cref, part: Option<Part>)
-    requires { arena.IsHeld memory.old at }
-    ensures slots { slots_of memory.new ≡ with_part (slots_of memory.old) at part }
-    ensures most { memory.new.most ≡ memory.old.most }
-    ensures used { memory.new.used ≡ memory.old.used }
-    ensures cells { arena.held_cells memory.new ≡ arena.held_cells memory.old }
+/// Keeps the first entries alone.
+fn cut(trail: &mut Trail, core: &mut Watches, rest: &mut Watches, mark: usize)
+    requires mark { mark ≤ length trail.old.lits }
+    requires watched { (m : Memory) × (known : List ℕ) × AreWatched m known trail.old core.old rest.old }
+    ensures value { trail.new ≡ first_entries trail.old mark }
+    ensures watched { (m : Memory) (known : List ℕ) → AreWatched m known trail.old core.old rest.old → AreWatched m known trail.new core.new rest.new }
 {
-    match part {
-        None => memory.set_mark(at, false),
-        Some(part) => {
-            memory.set_flag(at, part.is_core());
-            memory.set_mark(at, true);
-        }
+    if mark == trail.lits().len() {
+        return;
     }
+    trail.cut(mark);
+    core.fall_back(mark);
+    rest.fall_back(mark);
 }

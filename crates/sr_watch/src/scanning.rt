@@ -1,81 +1,9 @@
-// Looking at clauses and entries, one after another.
-ghost use Rattle.std.specs.Prelude.{ℕ, ◌≡◌, ◌≢◌, ◌<◌, ◌≤◌, length, true, false, None, Some, cond, ◌==◌, ◌||◌, nat_lt, MatchOption, slice_index_or};
-ghost use Rattle.sr_base.specs.Literal.{NoRepeats, complement, has};
-ghost use Rattle.sr_arena.specs.Cells.{IsHeld, cell_at};
+// Looking at entries, one after another.
+ghost use Rattle.std.specs.Prelude.{ℕ, ◌≡◌, ◌≢◌, ◌<◌, ◌≤◌, length, None, Some, true, false, cond, ◌==◌, ◌||◌, nat_lt, slice_index_or};
 ghost use Rattle.sr_watch.specs.State.{reason_in};
-ghost use Rattle.sr_watch.specs.Scanning.{Stands, Finds};
 
-use crate::parts::Part;
-use sr_arena::{ClauseMem, Cref, Steps};
-use sr_base::{Lit, has};
-use std::sync::ledger::Ledger;
-
-/// How a clause stands to a list of literals.
-#[derive(Clone, Copy)]
-pub enum Standing {
-    Settled,
-    Refuted,
-    Single(Lit),
-}
-
-/// What a scan finds.
-#[derive(Clone, Copy)]
-pub enum Next {
-    Nothing,
-    Falsified(Cref),
-    Forces(Lit, Cref),
-}
-
-/// How a clause stands to a list of literals.
-fn look_at(trail: &[Lit], clause: &[Lit]) -> Standing
-    requires { NoRepeats clause.now }
-    ensures { Stands clause.now trail.now result }
-{
-    let mut found = None;
-    for l in clause {
-        if !has(trail, l.neg()) {
-            if found.is_some() {
-                return Standing::Settled;
-            }
-            found = Some(*l);
-        }
-    }
-    match found {
-        None => Standing::Refuted,
-        Some(l) => {
-            if has(trail, l) {
-                return Standing::Settled;
-            }
-            Standing::Single(l)
-        }
-    }
-}
-
-/// The first clause of the part that is false, or that has one literal left.
-pub fn scan<L: Ledger>(
-    known: &[Cref],
-    trail: &[Lit],
-    memory: &ClauseMem,
-    part: Part,
-    steps: &mut Steps<L>,
-) -> Next
-    requires held { (i : ℕ) → i < length known.now → IsHeld memory.now (slice_index_or known.now i 0) }
-    requires distinct { (r : ℕ) → NoRepeats (cell_at memory.now r).lits }
-    ensures { Finds memory.now part known.now trail.now result }
-{
-    for i in 0..known.len() {
-        let at = known[i];
-        if part.takes(memory.mark(at), memory.flag(at)) {
-            let _index = at.index();
-            match look_at(trail, memory.lits(at, steps)) {
-                Standing::Settled => {}
-                Standing::Refuted => return Next::Falsified(at),
-                Standing::Single(l) => return Next::Forces(l, at),
-            }
-        }
-    }
-    Next::Nothing
-}
+use sr_arena::Cref;
+use sr_base::Lit;
 
 /// What the first entry of a literal's variable makes it, by one more than the first places of it and its
 /// complement, or 0.

@@ -2,6 +2,7 @@ use Rattle.std.proofs.Common.{◌≤◌, ◌∙◌, sym, subst, refl}
 use Rattle.sr_base.specs.Literal.{variable}
 use Rattle.sr_watch.specs.State.{State}
 use Rattle.sr_watch.proofs.Keeping.{kept_assume}
+use Rattle.sr_watch.proofs.Sides.{watched_assumed}
 use Rattle.sr_watch.proofs.propagator.Propagator.assume.Goals as goal
 
 pub push-requires : goal.push-requires
@@ -19,4 +20,5 @@ invariant_of-self c = rw c.push.ensures.value (
   c.self.invariant.2,
   c.self.invariant.3,
   c.self.invariant.4,
+  watched_assumed c.self.inside.memory c.self.inside.known.items c.self.inside.trail c.self.inside.core c.self.inside.rest c.args.l 0 c.self.invariant.5,
 )

@@ -1,7 +1,13 @@
-use Rattle.std.proofs.Common.{◌≡◌, ◌+◌, [], ◌∷◌, ap, arith, length, length-append, refl, ◌∙◌}
-use Rattle.sr_watch.specs.State.{State}
-use Rattle.sr_watch.proofs.Answering.{running_more, derives_start, self_means, still_means, conflict_means, least}
+use Rattle.std.proofs.Common.{◌≡◌, false, ap, sym, subst, ◌∙◌}
+use Rattle.sr_model.specs.Substitution.{has_pair}
+use Rattle.sr_watch.specs.State.{State, held_cells}
+use Rattle.sr_watch.specs.Changes.{Derives}
+use Rattle.sr_watch.specs.Marks.{joined, AreReady}
+use Rattle.sr_watch.proofs.Answering.{self_means, still_means, conflict_means, least}
+use Rattle.sr_watch.proofs.Closes.{propagated_kept, propagated_derives, propagated_watched}
+use Rattle.sr_watch.proofs.Keeping.{cells_are}
 use Rattle.sr_watch.proofs.propagator.Propagator.propagate.Goals as goal
+use Rattle.sr_watch.proofs.propagator.Propagator.propagate.Goals.{in-Some-close_part, in-None}
 
 pub returns-in-Some-clause-means : goal.returns-in-Some-clause-means
 returns-in-Some-clause-means g c = self_means c.args.part c.args.self.now c.in-Some.found c.in-Some.ensures.sound c.in-Some.ensures.finds
@@ -9,26 +15,33 @@ returns-in-Some-clause-means g c = self_means c.args.part c.args.self.now c.in-S
 pub returns-in-Some-clause-least : goal.returns-in-Some-clause-least
 returns-in-Some-clause-least g c = least c.args.self.now c.in-Some.ensures.sound
 
-pub loop-at-init : goal.loop-at-init
-loop-at-init g c = record { derives = derives_start c.args.self.now; sound = c.in_default.ensures.sound; no_pair = c.in_default.ensures.finds; cells = refl }
+pub invariant_of-self : goal.invariant_of-self
+invariant_of-self g c =
+    let x = c.close_part.ensures.steps in (
+      propagated_kept c.self.inside.memory c.close_part.new.memory c.self.inside.known.items c.self.inside.trail c.close_part.new.trail x c.close_part.ensures.sound c.self.invariant.0,
+      c.self.invariant.1 ∙ sym x.most,
+      c.self.invariant.2,
+      x.used ∙ c.self.invariant.3 ∙ sym x.cells,
+      subst (λ v. AreReady c.self.inside.needed v) (sym x.grown.vars) c.self.invariant.4,
+      propagated_watched c.self.inside.memory c.close_part.new.memory c.self.inside.known.items c.self.inside.trail c.close_part.new.trail c.self.inside.core c.close_part.new.core c.self.inside.rest c.close_part.new.rest x c.close_part.ensures.core_shape c.close_part.ensures.rest_shape c.close_part.ensures.core_rests c.close_part.ensures.rest_rests c.self.invariant.5,
+    )
 
-pub returns-in-Nothing-clause-means : goal.returns-in-Nothing-clause-means
-returns-in-Nothing-clause-means g c = still_means c.args.part c.loop-at.self c.loop-at.invariant.no_pair c.in-Nothing.ensures
+pub returns-clause-derives : goal.returns-clause-derives
+returns-clause-derives g c = subst (λ (s : State). Derives s (joined c.close_part.new.trail c.close_part.new.memory)) c.self.view_is (propagated_derives c.self.inside.memory c.close_part.new.memory c.self.inside.trail c.close_part.new.trail c.close_part.ensures.steps)
 
-pub returns-in-Falsified-clause-means : goal.returns-in-Falsified-clause-means
-returns-in-Falsified-clause-means g c = conflict_means c.args.part c.loop-at.self c.in-Falsified.at c.loop-at.invariant.sound c.in-Falsified.ensures
+pub returns-clause-means : goal.returns-clause-means
+returns-clause-means g c =
+    let now : State = joined c.close_part.new.trail c.close_part.new.memory in
+    let np : has_pair c.self.inside.trail.lits ≡ false = subst (λ (s : State). has_pair s.lits ≡ false) (sym c.self.view_is) c.in_default.ensures.finds in
+    elim c.match-close_part.branch [
+      | in-Some-close_part w ↦ rw w.result-is (conflict_means c.args.part now w.in-Some-close_part.at c.close_part.ensures.sound w.in-Some-close_part.ensures.found)
+      | in-None w ↦ rw w.result-is (still_means c.args.part now (c.close_part.ensures.steps.grown.no_pair np) w.in-None.ensures.found)
+    ]
 
-pub loop-at-preserved : goal.loop-at-preserved
-loop-at-preserved g c = rw c.derive.ensures.value (running_more c.args.self.now c.loop-at.self c.in-Forces.l c.in-Forces.at c.loop-at.invariant c.in-Forces.ensures.0)
+pub returns-clause-cells : goal.returns-clause-cells
+returns-clause-cells g c =
+    cells_are c.close_part.new.trail.vars c.close_part.new.memory c.close_part.new.trail.lits c.close_part.new.trail.reasons ∙ c.close_part.ensures.steps.cells
+    ∙ sym (cells_are c.self.inside.trail.vars c.self.inside.memory c.self.inside.trail.lits c.self.inside.trail.reasons) ∙ ap held_cells c.self.view_is
 
-pub loop-at-smaller : goal.loop-at-smaller
-loop-at-smaller g c =
-    let v : c.derive.new.self.vars ≡ c.loop-at.self.vars = ap (λ (s : State). s.vars) c.derive.ensures.value in
-    let n : length c.derive.new.self.lits ≡ length c.loop-at.self.lits + 1 = ap (λ (s : State). length s.lits) c.derive.ensures.value ∙ length-append c.loop-at.self.lits (c.in-Forces.l ∷ []) in
-    omega (arith, v, n, c.derive.ensures.room)
-
-pub returns-in-Nothing-clause-least : goal.returns-in-Nothing-clause-least
-returns-in-Nothing-clause-least g c = least c.loop-at.self c.loop-at.invariant.sound
-
-pub returns-in-Falsified-clause-least : goal.returns-in-Falsified-clause-least
-returns-in-Falsified-clause-least g c = least c.loop-at.self c.loop-at.invariant.sound
+pub returns-clause-least : goal.returns-clause-least
+returns-clause-least g c = least (joined c.close_part.new.trail c.close_part.new.memory) c.close_part.ensures.sound

@@ -4,10 +4,11 @@ use Rattle.sr_watch.proofs.Keeping.{kept_cut}
 use Rattle.sr_watch.proofs.propagator.Propagator.undo_to.Goals as goal
 
 pub invariant_of-self : goal.invariant_of-self
-invariant_of-self c = rw c.cut.ensures (
-  kept_cut c.self.inside.trail.vars c.self.inside.memory c.self.inside.known.items c.self.inside.trail.lits c.self.inside.trail.reasons c.args.mark (subst (λ (s : State). c.args.mark ≤ length s.lits) (sym c.self.view_is) c.requires) c.self.invariant.0,
+invariant_of-self c = (
+  rw c.cut.ensures.value (kept_cut c.self.inside.trail.vars c.self.inside.memory c.self.inside.known.items c.self.inside.trail.lits c.self.inside.trail.reasons c.args.mark (subst (λ (s : State). c.args.mark ≤ length s.lits) (sym c.self.view_is) c.requires) c.self.invariant.0),
   c.self.invariant.1,
   c.self.invariant.2,
   c.self.invariant.3,
-  c.self.invariant.4,
+  rw c.cut.ensures.value c.self.invariant.4,
+  c.cut.ensures.watched c.self.inside.memory c.self.inside.known.items c.self.invariant.5,
 )
