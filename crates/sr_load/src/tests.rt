@@ -202,9 +202,12 @@ fn is_list(chain: &[u32], wanted: &[u32]) -> bool {
     chain == wanted
 }
 
+#[tactic(auto, using(crate::proofs::Numbering::has_number))]
 fn cite(proof: &mut LoadedProof, id: u32) -> Result<(), Fail> {
-    if proof.alive_from(id) == Some(id) {
-        proof.cite(id)?;
+    if let Some(alive) = proof.alive_from(id) {
+        if alive == id {
+            proof.cite(alive)?;
+        }
     }
     Ok(())
 }
@@ -232,6 +235,14 @@ struct Entry {
     lits: LitList,
     born: usize,
     gone: usize,
+}
+
+/// The number of the clause of an entry.
+fn number_of(i: usize) -> u32 {
+    match u32::try_from(i) {
+        Ok(before) => before.wrapping_add(1),
+        Err(_) => 0,
+    }
 }
 
 #[derive(Drop)]
@@ -263,10 +274,10 @@ impl Bench {
 
     /// A clause of one to three literals.
     fn clause(&mut self, alloc: Global) -> Result<Clause, Fail> {
-        let count = 1 + self.below(12);
+        let count = self.below(12);
         let mut lits = Items::new(alloc);
         for i in 0..3u64 {
-            if i < count {
+            if i <= count {
                 lits.push(self.literal()?)?;
             }
         }
@@ -275,12 +286,20 @@ impl Bench {
 
     /// A clause to delete: one of those that came, turned round, or any other.
     fn victim(&mut self, alloc: Global) -> Result<Clause, Fail> {
-        let i = self.below(2 * self.entries.len() as u64) as usize;
-        if i >= self.entries.len() {
+        let count = self.entries.len();
+        let i = self.below((count as u64).wrapping_mul(2)) as usize;
+        if i >= count {
             return self.clause(alloc);
         }
+        self.turned(alloc, i)
+    }
+
+    /// The clause of an entry, turned round.
+    fn turned(&self, alloc: Global, i: usize) -> Result<Clause, Fail> {
         let mut lits = Items::new(alloc);
-        lits.extend(self.entries[i].lits.as_slice())?;
+        if i < self.entries.len() {
+            lits.extend(self.entries[i].lits.as_slice())?;
+        }
         lits.reverse();
         Ok(Clause::from_list(alloc, lits)?)
     }
@@ -298,9 +317,12 @@ impl Bench {
 
     /// The last alive clause that is the set goes.
     fn went(&mut self, lits: &[Lit]) {
-        let mut i = self.entries.len();
-        while i > 0 {
-            i -= 1;
+        let count = self.entries.len();
+        for k in 0..count {
+            let i = count - 1 - k;
+            if i >= self.entries.len() {
+                return;
+            }
             let entry = &mut self.entries[i];
             if entry.gone == usize::MAX && is_same_set(entry.lits.as_slice(), lits) {
                 entry.gone = self.lines;
@@ -313,6 +335,23 @@ impl Bench {
         i < self.entries.len() && self.entries[i].born <= lines && self.entries[i].gone > lines
     }
 
+    /// How many lines stand before that of a lemma.
+    fn lines_before(&self, id: u32) -> usize {
+        let i = (id as usize).saturating_sub(1);
+        if i < self.entries.len() {
+            self.entries[i].born.saturating_sub(1)
+        } else {
+            0
+        }
+    }
+
+    fn counts(&self, i: usize, lines: usize, cited: Option<&LoadedProof>) -> bool {
+        match cited {
+            Some(proof) if !proof.is_cited(number_of(i)) => false,
+            _ => self.is_alive(i, lines),
+        }
+    }
+
     /// Whether the clauses that are alive after so many lines refute, or those of them that are cited.
     fn refutes(
         &self,
@@ -323,11 +362,7 @@ impl Bench {
     ) -> Result<bool, Fail> {
         let mut found = Vec::new(alloc);
         for i in 0..self.entries.len() {
-            let counts = match cited {
-                None => true,
-                Some(proof) => proof.is_cited((i + 1) as u32),
-            };
-            if counts && self.is_alive(i, lines) {
+            if self.counts(i, lines, cited) {
                 found.push(Clause::from_lits(alloc, self.entries[i].lits.as_slice())?)?;
             }
         }
@@ -339,14 +374,48 @@ fn is_same_set(a: &[Lit], b: &[Lit]) -> bool {
     a.len() == b.len() && a.iter().all(|l| b.contains(l))
 }
 
-/// Loads a random proof, and says whether loading stops where it should.
-fn load_random(alloc: Global, bench: &mut Bench) -> Result<Option<Loader>, Fail> {
+fn random_deletion(alloc: Global, bench: &mut Bench) -> Result<DsrLine, Fail>
+    ensures { IfOk result (λ l. LineHasPivot (line_of l)) }
+{
+    let clause = bench.victim(alloc)?;
+    bench.went(clause.lits());
+    Ok(DsrLine::Del(clause))
+}
+
+fn random_lemma(alloc: Global, bench: &mut Bench) -> Result<DsrLine, Fail>
+    ensures { IfOk result (λ l. LineHasPivot (line_of l)) }
+{
+    let clause = bench.clause(alloc)?;
+    bench.came(alloc, clause.lits())?;
+    Ok(DsrLine::Add(Lemma {
+        clause,
+        witness: None,
+    }))
+}
+
+fn random_line(alloc: Global, bench: &mut Bench) -> Result<DsrLine, Fail>
+    ensures { IfOk result (λ l. LineHasPivot (line_of l)) }
+{
+    if bench.below(5) < 2 {
+        random_deletion(alloc, bench)
+    } else {
+        random_lemma(alloc, bench)
+    }
+}
+
+fn random_formula(alloc: Global, bench: &mut Bench) -> Result<Formula, Fail> {
     let mut formula = Formula::new(alloc, 4);
     for _ in 0..5 {
         let clause = bench.clause(alloc)?;
         bench.came(alloc, clause.lits())?;
         add(&mut formula, clause)?;
     }
+    Ok(formula)
+}
+
+/// Loads a random proof; none where loading doesn't stop as it should.
+fn load_random(alloc: Global, bench: &mut Bench) -> Result<Option<Loader>, Fail> {
+    let formula = random_formula(alloc, bench)?;
     let Ok(mut loader) = Loader::new(alloc, formula, &Limits::shipped(), false) else {
         return Err(Fail::from("no loader"));
     };
@@ -359,23 +428,42 @@ fn load_random(alloc: Global, bench: &mut Bench) -> Result<Option<Loader>, Fail>
             return Ok(Some(loader));
         }
         bench.lines = bench.lines.saturating_add(1);
-        let mut line = if bench.below(5) < 2 {
-            let clause = bench.victim(alloc)?;
-            bench.went(clause.lits());
-            DsrLine::Del(clause)
-        } else {
-            let clause = bench.clause(alloc)?;
-            bench.came(alloc, clause.lits())?;
-            DsrLine::Add(Lemma {
-                clause,
-                witness: None,
-            })
-        };
+        let mut line = random_line(alloc, bench)?;
         if take(&mut loader, &mut line).is_err() {
             return Ok(None);
         }
     }
     Ok(Some(loader))
+}
+
+fn lives_well(bench: &Bench, proof: &LoadedProof, lines: usize) -> bool {
+    for i in 0..bench.entries.len() {
+        let id = number_of(i);
+        if (proof.alive_from(id) == Some(id)) != bench.is_alive(i, lines) {
+            return false;
+        }
+    }
+    true
+}
+
+fn assume_two(alloc: Global, bench: &mut Bench, proof: &mut LoadedProof) -> Result<LitList, Fail> {
+    let mut assumed = Items::new(alloc);
+    for _ in 0..2 {
+        let l = bench.literal()?;
+        proof.assume(l)?;
+        assumed.push(l)?;
+    }
+    Ok(assumed)
+}
+
+/// Cites a chain's clauses, and says whether all were cited.
+fn cite_all(proof: &mut LoadedProof, chain: &[u32]) -> Result<bool, Fail> {
+    let mut all = true;
+    for id in chain {
+        all = all && proof.is_cited(*id);
+        cite(proof, *id)?;
+    }
+    Ok(all)
 }
 
 /// Whether the test of the clauses that are alive after so many lines is that of the plain one. The chain's clauses are cited.
@@ -385,32 +473,17 @@ fn asks_well(
     proof: &mut LoadedProof,
     lines: usize,
 ) -> Result<bool, Fail> {
-    for i in 0..bench.entries.len() {
-        let id = (i + 1) as u32;
-        if (proof.alive_from(id) == Some(id)) != bench.is_alive(i, lines) {
-            return Ok(false);
-        }
+    if !lives_well(bench, proof, lines) {
+        return Ok(false);
     }
-    let mut assumed = Items::new(alloc);
-    for _ in 0..2 {
-        let l = bench.literal()?;
-        proof.assume(l)?;
-        assumed.push(l)?;
-    }
+    let assumed = assume_two(alloc, bench, proof)?;
     let by_cited = bench.refutes(alloc, lines, assumed.as_slice(), Some(proof))?;
     let wanted = bench.refutes(alloc, lines, assumed.as_slice(), None)?;
     let mut chain = Items::new(alloc);
-    if proof.refute(&mut chain)? != wanted {
-        return Ok(false);
-    }
-    for id in chain.as_slice() {
-        if by_cited && !proof.is_cited(*id) {
-            return Ok(false);
-        }
-        cite(proof, *id)?;
-    }
+    let found = proof.refute(&mut chain)?;
+    let cited = cite_all(proof, chain.as_slice())?;
     proof.undo_to(0);
-    Ok(true)
+    Ok(found == wanted && (cited || !by_cited))
 }
 
 /// Whether a random proof is loaded and taken back as it should be.
@@ -427,16 +500,17 @@ fn is_well(alloc: Global, seed: u64) -> Result<bool, Fail> {
         return Ok(true);
     }
     let mut proof = finish(loader)?;
-    for _ in 0..30 {
-        let Some(id) = back(&mut proof)? else {
-            return asks_well(alloc, &mut bench, &mut proof, 0);
+    goes_back_well(alloc, &mut bench, &mut proof)
+}
+
+/// Whether it is taken back as it should be.
+fn goes_back_well(alloc: Global, bench: &mut Bench, proof: &mut LoadedProof) -> Result<bool, Fail> {
+    for _ in 0..31 {
+        let Some(id) = back(proof)? else {
+            return asks_well(alloc, bench, proof, 0);
         };
-        let i = (id as usize).saturating_sub(1);
-        if i >= bench.entries.len() || bench.entries[i].born == 0 {
-            return Ok(false);
-        }
-        let lines = bench.entries[i].born - 1;
-        if !asks_well(alloc, &mut bench, &mut proof, lines)? {
+        let lines = bench.lines_before(id);
+        if !asks_well(alloc, bench, proof, lines)? {
             return Ok(false);
         }
     }
