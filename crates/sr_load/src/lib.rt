@@ -14,8 +14,6 @@ mod progress;
 mod proof;
 mod records;
 mod room;
-#[cfg(test)]
-mod tests;
 mod timeline;
 mod units;
 
