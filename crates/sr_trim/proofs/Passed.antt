@@ -1,5 +1,5 @@
 -- From a whole pass to what is written of it.
-use Rattle.std.proofs.Common.{◌≡◌, ◌∙◌, ◌⊎◌, ◌↔◌, ◌++◌, inl, inr, ◌+◌, ℕ, suc, true, false, List, [], ◌∷◌, Option, None, Ok, Err, refl, sym, ap, subst, arith, length, Some}
+use Rattle.std.proofs.Common.{◌≡◌, ◌∙◌, ◌⊎◌, ◌↔◌, ◌++◌, inl, inr, ◌+◌, ℕ, suc, true, false, List, [], ◌∷◌, Option, None, Ok, Err, refl, sym, ap, subst, arith, length}
 use Rattle.std.specs.Prelude.{Result, option_map, is_some, nat_lt, ◌&&◌, ◌||◌, sum_by, All}
 use Rattle.std.proofs.lemmas.List.{map-append, length-map}
 use Rattle.std.proofs.lemmas.List.Sums.{sum_by-append}
@@ -25,9 +25,7 @@ use Rattle.sr_trimming.specs.Written.{CiteKnown}
 use Rattle.sr_trimming.proofs.ProofsRewritten.{cited_same, core_same, linked_same}
 use Rattle.sr_trimming.proofs.Written.{written_verified, core_first_written}
 use Rattle.sr_steps.specs.Kept.{Kept, step_of}
-use Rattle.sr_back.specs.Pass.{IsWholePass, IsPass, steps_of}
-use Rattle.sr_back.specs.declared.passing.Back.TheVariants.{Failed}
-use Rattle.sr_trimming.specs.Evidence.{FailsAt}
+use Rattle.sr_back.specs.Pass.{IsWholePass, steps_of}
 use Rattle.sr_placing.specs.Placing.{placing_of}
 use Rattle.sr_placing.specs.Counting as kept
 use Rattle.sr_placing.proofs.Placings.{hints_are}
@@ -248,15 +246,3 @@ module _ (lim : LimitValues) (s : TrimSaid) (st : LoadedState) (ks : List Kept) 
         core = e.0 ∙ ap (λ (x : List ℕ). option_map (λ name. x) s.core) (core_text_same g.0 g.1);
         counts = counts g.0 g.1;
       }
-
--- a lemma that is needed fails
-pub failed_here : (lim : LimitValues) (s : TrimSaid) (st : LoadedState) (f : Formula) (ds : List Done) (lemma against : ℕ) → st.formula ≡ f → st.standing ≡ ds → IsPass st (Failed lemma against)
-    → ByPass lim s f ds (stops (outcome.RejectedLemma lemma (Some against)))
-failed_here lim s st f ds lemma against is_formula is_standing p = inl (record {
-  lemma = lemma;
-  against = against;
-  groups = p.0;
-  tail = p.1;
-  fails = subst (λ (es : List Done). FailsAt f.clauses es lemma against p.0 p.1) is_standing (subst (λ (g : Formula). FailsAt g.clauses st.standing lemma against p.0 p.1) is_formula p.2);
-  is = refl;
-})
