@@ -1,23 +1,22 @@
 -- The first clash among the entries.
-use Rattle.std.proofs.Common.{◌≡◌, ◌≢◌, ◌<◌, ◌≤◌, ◌-◌, ◌⊎◌, inl, inr, ℕ, suc, zero, Bool, true, false, not, cond, Some, None, ◌==◌, ◌||◌, ◌&&◌, List, [], ◌∷◌, refl, sym, ◌∙◌, ap, subst, arith, length, get_or, take}
+use Rattle.std.proofs.Common.{◌≡◌, ◌≢◌, ◌<◌, ◌≤◌, ◌-◌, ◌⊎◌, inl, inr, ℕ, suc, zero, true, false, not, cond, Some, None, ◌==◌, ◌||◌, List, [], ◌∷◌, refl, sym, ◌∙◌, ap, subst, arith, length, get_or, take}
 use Rattle.std.proofs.lemmas.Bool.Decides.{nat_tests}
 use Rattle.std.proofs.lemmas.List.{get_or_default}
 use Rattle.sr_base.specs.Literal.{Literal, plus, minus, variable, complement, same, has}
 use Rattle.std.specs.Prelude.{nat_lt}
 use Rattle.sr_watch.specs.State.{value_in}
 use Rattle.sr_base.proofs.Literals.{same_tells, complement_twice}
-use Rattle.sr_model.specs.Refutation.{Includes}
 use Rattle.sr_model.specs.Substitution.{has_pair}
 use Rattle.sr_model.proofs.Soundness.{by_test}
-use Rattle.sr_model.proofs.Chains.{pair_from, pair_tells}
+use Rattle.sr_model.proofs.Chains.{pair_from}
 use Rattle.sr_watch.specs.State.{State, lit_at, reason_at, assumed, assumed_in, IsSound}
-use Rattle.sr_watch.specs.Running.{NoClash}
+use Rattle.sr_watch.specs.Running.{AreNews, NoClash, IsClash, ClashesWith}
 use Rattle.sr_watch.specs.Trail.{Entries, AreEntries, place_in, IsClashAt}
-use Rattle.sr_watch.proofs.Entries.{by_eq}
+use Rattle.sr_watch.proofs.Entries.{by_eq, no_assumed_pair}
 use Rattle.sr_watch.proofs.Bounds.{assumed_among}
 use Rattle.sr_watch.proofs.Looking.{in_take}
 use Rattle.sr_watch.proofs.Answering.{entry_assumed}
-use Rattle.sr_watch.proofs.Tables.{in_list, no_pair_less, place_has}
+use Rattle.sr_watch.proofs.Tables.{in_list, place_has}
 use Rattle.sr_watch.proofs.Marking.{variable_complement}
 
 pub item_within : (e : Entries) (i : ℕ) (l : Literal) → AreEntries e → i < length e.lits → l ≡ get_or e.lits i l → variable l ≤ e.vars
@@ -26,35 +25,13 @@ item_within e i l a lt is = a.within l (in_list e.lits i l lt is)
 pub neg_within : (e : Entries) (i : ℕ) (l : Literal) → AreEntries e → i < length e.lits → l ≡ get_or e.lits i l → variable (complement l) ≤ e.vars
 neg_within e i l a lt is = omega (arith, variable_complement l, item_within e i l a lt is)
 
-pub index_has : (ls : List Literal) (k : Literal) → has k ls ≡ true → (i : ℕ) × (i < length ls) × (get_or ls i (plus 0) ≡ k)
-index_has [] k h = absurd cc
-index_has (l ∷ ls) k h = by_test (same l k)
-    (λ t. (0, omega arith, grind (arith, same_tells l k)))
-    (λ f. let w = index_has ls k (grind arith) in (suc w.0, omega (arith, w.1), w.2))
-
 -- without a clash no assumed literal's complement is true
-pub none_assumed : (ls : List Literal) (rs : List ℕ) → has_pair ls ≡ false → has_pair (assumed_in ls rs) ≡ false
-none_assumed ls rs p = no_pair_less (assumed_in ls rs) ls (λ k h. assumed_among ls rs k h) p
-
 pub no_clash : (ls : List Literal) (rs : List ℕ) (n : ℕ) → has_pair ls ≡ false → n ≤ length ls → NoClash ls rs n
 no_clash ls rs n p le i lt d = by_test (has (complement (get_or ls i (plus 0))) (assumed_in ls rs))
     (λ t. let one : has (get_or ls i (plus 0)) ls ≡ true = in_list ls i (get_or ls i (plus 0)) (omega arith) (get_or_default ls i (plus 0) (get_or ls i (plus 0)) (omega arith)) in
     let two : has (complement (get_or ls i (plus 0))) ls ≡ true = assumed_among ls rs (complement (get_or ls i (plus 0))) t in
     let q : has_pair ls ≡ true = pair_from ls (get_or ls i (plus 0), one, two) in absurd cc)
     (λ f. f)
-
-pub no_pair_all : (ls a : List Literal) → Includes a ls → ((i : ℕ) → i < length ls → (has (get_or ls i (plus 0)) a && has (complement (get_or ls i (plus 0))) a) ≡ false) → has_pair a ≡ false
-no_pair_all ls a inc f = by_test (has_pair a)
-    (λ t. let w = pair_tells a t in
-    let at = index_has ls w.0 (inc w.0 w.1) in
-    let g : (has w.0 a && has (complement w.0) a) ≡ false = subst (λ k. (has k a && has (complement k) a) ≡ false) at.2 (f at.0 at.1) in
-    let one : has w.0 a ≡ true = w.1 in
-    let two : has (complement w.0) a ≡ true = w.2 in
-    absurd (grind arith))
-    (λ u. u)
-
-pub pair_and : (a : List Literal) (k : Literal) (x y : Bool) → x ≡ has k a → y ≡ has (complement k) a → x ≡ true → y ≡ true → has_pair a ≡ true
-pair_and a k x y p q s t = pair_from a (k, sym p ∙ s, sym q ∙ t)
 
 -- the literal of the first clash is assumed, and its complement is true
 pub clash_pair : (s : State) (c : ℕ) (l : Literal) → IsSound s → IsClashAt s.lits c → c ≢ 0 → l ≡ get_or s.lits (c - 1) l → (c - 1 < length s.lits) × (has l (assumed s) ≡ true) × (has (complement l) s.lits ≡ true) × (has l s.lits ≡ true)
@@ -88,6 +65,63 @@ place_derived s k sound h n z =
     let w = place_at s.lits k h in
     let a : has k (assumed s) ≡ true = subst (λ j. has j (assumed s) ≡ true) w.2 (entry_assumed s.lits s.reasons (place_in s.lits k - 1) w.1 (sym sound.sizes) z) in
     absurd cc
+
+-- an entry is among the first ones, also at its first place
+entry_in : (ls : List Literal) (i n : ℕ) → i < n → i < length ls → has (get_or ls i (plus 0)) (take n ls) ≡ true
+entry_in [] i n a b = absurd (omega arith)
+entry_in (l ∷ ls) i zero a b = absurd (omega arith)
+entry_in (l ∷ ls) zero (suc n) a b = grind (arith, same_tells l l)
+entry_in (l ∷ ls) (suc i) (suc n) a b = let h = entry_in ls i n (omega arith) (omega arith) in by_test (same l (get_or ls i (plus 0))) (λ t. rw t refl) (λ t. rw t h)
+
+pub first_place : (ls : List Literal) (i : ℕ) → i < length ls → has (get_or ls i (plus 0)) (take i ls) ≡ false → place_in ls (get_or ls i (plus 0)) ≡ suc i
+first_place [] i lt h = absurd (omega arith)
+first_place (l ∷ ls) zero lt h = let t : same l l ≡ true = grind (arith, same_tells l l) in rw t refl
+first_place (l ∷ ls) (suc i) lt h =
+    let f : same l (get_or ls i (plus 0)) ≡ false = by_test (same l (get_or ls i (plus 0))) (λ t. let q : true ≡ false = rw t at h in absurd cc) (λ f. f) in
+    let g : has (get_or ls i (plus 0)) (take i ls) ≡ false = rw f at h in
+    let p : place_in ls (get_or ls i (plus 0)) ≡ suc i = first_place ls i (omega arith) g in
+    let z : (suc i == 0) ≡ false = grind (arith, nat_tests) in
+    rw (f, p, z) refl
+
+-- no entry clashes with one before the first whose complement comes before it
+pub no_early_clash : (ls : List Literal) (rs : List ℕ) (n i j : ℕ) → AreNews ls rs → IsClashAt ls n → n ≢ 0 → i < n - 1 → ClashesWith ls rs j i → ⊥
+no_early_clash ls rs n i j news x ne lt c =
+    let p = x.some (omega (arith, ne)) in
+    let none : has_pair (take (n - 1) ls) ≡ false = p.none_before in
+    let within = p.within in
+    by_lt j i
+    (λ before.
+    let one : has (get_or ls j (plus 0)) (take (n - 1) ls) ≡ true = entry_in ls j (n - 1) (omega arith) c.within in
+    let two : has (complement (get_or ls j (plus 0))) (take (n - 1) ls) ≡ true = rw c.complement (entry_in ls i (n - 1) lt (omega arith)) in
+    let q : has_pair (take (n - 1) ls) ≡ true = pair_from (take (n - 1) ls) (get_or ls j (plus 0), one, two) in cc)
+    (λ z. c.derived (subst (λ k. get_or rs k 0 ≡ 0) (sym z) c.assumed))
+    (λ later.
+    let two : has (complement (get_or ls j (plus 0))) (take j ls) ≡ true = rw c.complement (entry_in ls i j later (omega arith)) in
+    let q : has (complement (get_or ls j (plus 0))) (take j ls) ≡ false = (news j c.within c.derived).not_false in cc)
+  where
+    by_lt : {P : Type 0} (a b : ℕ) → (a < b → P) → (a ≡ b → P) → (b < a → P) → P
+    by_lt a b f g h = by_test (nat_lt a b) (λ t. f (grind (arith, nat_tests))) (λ t. by_eq a b g (λ d. h (let q : b ≤ a = grind (arith, nat_tests) in omega (arith, d))))
+
+-- where no assumed entry clashes with one of the first, there is no clash among them
+pub no_clash_before : (ls : List Literal) (rs : List ℕ) (n : ℕ) → length rs ≡ length ls → n ≤ length ls → ((j i : ℕ) → i < length ls → ClashesWith ls rs j i → n ≤ j) → NoClash ls rs n
+no_clash_before ls rs n size le f j lt ne = no_assumed_pair ls rs (complement (get_or ls j (plus 0))) (length ls) size (omega arith) (λ i within z is. let w = f j i within (record { within = omega arith; derived = ne; assumed = z; complement = sym is }) in omega arith)
+
+-- the first place of the literal that an assumed entry clashes with
+pub clash_place : (ls : List Literal) (rs : List ℕ) (i j : ℕ) → AreNews ls rs → ClashesWith ls rs j i → place_in ls (complement (get_or ls i (plus 0))) ≡ suc j
+clash_place ls rs i j news c =
+    let is : get_or ls j (plus 0) ≡ complement (get_or ls i (plus 0)) = sym (complement_twice (get_or ls j (plus 0))) ∙ ap complement c.complement in
+    rw (← is) (first_place ls j c.within (news j c.within c.derived).not_true)
+
+pub clash_is : (ls : List Literal) (rs : List ℕ) (i : ℕ) → length rs ≡ length ls → i < length ls → get_or rs i 0 ≡ 0 → place_in ls (complement (get_or ls i (plus 0))) ≢ 0 → get_or rs (place_in ls (complement (get_or ls i (plus 0))) - 1) 0 ≢ 0
+    → IsClash ls rs (place_in ls (complement (get_or ls i (plus 0))) - 1)
+clash_is ls rs i size lt z some ne =
+    let k : Literal = complement (get_or ls i (plus 0)) in
+    let h : has (complement (get_or ls i (plus 0))) ls ≡ true = place_has ls (complement (get_or ls i (plus 0))) ∙ ap not (let f : (place_in ls (complement (get_or ls i (plus 0))) == 0) ≡ false = grind (arith, nat_tests) in f) in
+    let w = place_at ls (complement (get_or ls i (plus 0))) h in
+    record {
+      derived = ne;
+      assumed = rw (w.2, complement_twice (get_or ls i (plus 0))) (entry_assumed ls rs i lt (sym size) z);
+    }
 
 -- the value of a literal, by the first places of it and of its complement
 other : (k : Literal) → same k (complement k) ≡ false

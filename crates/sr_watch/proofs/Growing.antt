@@ -44,7 +44,7 @@ pub derived_once_assume : (ls : List Literal) (rs : List ℕ) (l : Literal) → 
 derived_once_assume ls rs l n d = rw (derived_push ls rs l 0 n) d
 
 -- the same of the first entries
-assumed_cut_has : (n : ℕ) (ls : List Literal) (rs : List ℕ) (k : Literal) → has k (assumed_in (take n ls) (take n rs)) ≡ true → has k (assumed_in ls rs) ≡ true
+pub assumed_cut_has : (n : ℕ) (ls : List Literal) (rs : List ℕ) (k : Literal) → has k (assumed_in (take n ls) (take n rs)) ≡ true → has k (assumed_in ls rs) ≡ true
 assumed_cut_has zero ls rs k h = absurd cc
 assumed_cut_has (suc n) [] rs k h = absurd cc
 assumed_cut_has (suc n) (l ∷ ls) [] k h = absurd cc

@@ -15,18 +15,9 @@ use Rattle.sr_model.specs.Chain.{open_literals}
 use Rattle.sr_model.proofs.Soundness.{by_test}
 use Rattle.sr_watch.specs.State.{State, lits_at, lit_at, reason_at, assumed, IsAttached, AllFalse, IsSound}
 use Rattle.sr_watch.specs.Lean.{stands_in, is_lean, AreReasonsOr, IsChain}
+use Rattle.sr_watch.specs.Collecting.{IsBase, IsLeanAt, IsCollecting}
 use Rattle.sr_watch.specs.Running.{NoClash, IsClash, IsEarly, ClosesAt, AreAttached, IsUsed, IsSpare}
 use Rattle.sr_watch.proofs.Answering.{entry_assumed, taken_next, pair_push}
-
--- a set of early literals without a pair, which has those whose complements stand in the clauses
-pub record IsBase (s : State) (n : ℕ) (hs : List ℕ) (a : List Literal) : Type 0 where
-  pub no_pair : has_pair a ≡ false
-  pub early : (k : Literal) → has k a ≡ true → IsEarly s n k
-  pub stands : (k : Literal) → stands_in s (complement k) hs ≡ true → IsEarly s n k → has k a ≡ true
-
--- the clauses are lean from each such set
-pub record IsLeanAt (s : State) (n : ℕ) (hs : List ℕ) : Type 0 where
-  pub lean : (a : List Literal) → IsBase s n hs a → is_lean s a hs ≡ true
 
 open_none_from : (a c : List Literal) → ((k : Literal) → has k c ≡ true → has (complement k) a ≡ true) → open_literals a c ≡ []
 open_none_from a [] f = refl
@@ -147,11 +138,6 @@ attached_push s [] x a h = (h, tt)
 attached_push s (y ∷ xs) x a h = (a.0, attached_push s xs x a.1 h)
 
 -- what collecting keeps
-pub record IsCollecting (s : State) (at n : ℕ) (out : List ℕ) : Type 0 where
-  pub attached : AreAttached s out
-  pub lean : IsLeanAt s n (reverse out)
-  pub of : AreReasonsOr s at (reverse out)
-
 pub collect_first : (s : State) (at n : ℕ) → ClosesAt s at n → IsCollecting s at n (at ∷ [])
 collect_first s at n c = record { attached = (c.attached, tt); lean = lean_last s at n c; of = (inl refl, tt) }
 

@@ -8,7 +8,10 @@ pub mod Answering
 pub mod Keeping
 pub mod Leaning
 pub mod Tables
+pub mod Firsts
 pub mod Marking
+pub mod Heaps
+pub mod Collecting
 pub mod Clashing
 pub mod TwoWatches
 pub mod Swapping
@@ -31,3 +34,5 @@ pub mod Rooms
 pub mod Sides
 pub mod Attached
 pub mod Regrouping
+pub mod Derivations
+pub mod Replacing

@@ -9,7 +9,7 @@ use Rattle.sr_watch.specs.declared.parts.Part.{Part}
 use Rattle.sr_watch.specs.declared.parts.Part.TheVariants.{All}
 use Rattle.sr_watch.specs.Parts.{counts, is_core}
 use Rattle.sr_watch.specs.declared.watches.Watches.{Watches}
-use Rattle.sr_watch.specs.State.{Slot, slot_in, AreWithin, IsSound}
+use Rattle.sr_watch.specs.State.{Slot, slot_in, AreWithin, IsSound, IsAttached}
 use Rattle.sr_watch.specs.Changes.{with_part, IsReordered, IsAttachedTo, IsDetached}
 use Rattle.sr_watch.specs.Inside.{part_of, slots_of, IsKept}
 use Rattle.sr_watch.specs.Trail.{Entries, first_entries}
@@ -21,6 +21,7 @@ use Rattle.sr_watch.specs.Parting.{IsParted, IsMoved}
 use Rattle.sr_watch.proofs.Entries.{by_eq}
 use Rattle.sr_watch.proofs.Sides.{held_same_count, forgotten_rests}
 use Rattle.sr_watch.proofs.Attached.{not_pending}
+use Rattle.sr_watch.proofs.Visits.{distinct_cells}
 use Rattle.sr_watch.proofs.Slots.{slot_is, part_here, part_other, core_or_all, known_same}
 
 -- one clause may be of another part, and the literals of each may be in another order
@@ -201,3 +202,15 @@ off_core m at h = rw h (go (cell_at m at).marked)
 -- a clause of the rest that isn't attached any more
 pub watched_parked : (m n : Memory) (known : List ℕ) (e : Entries) (core rest rest' : Watches) (at : ℕ) → IsHeld m at → (cell_at m at).flagged ≡ false → IsParted m n at None → HasForgotten rest rest' at → AreWatched m known e core rest → AreWatched n known e core rest'
 watched_parked m n known e core rest rest' at h flag x b y = watched_parted m n known e core core rest rest' at h x (forgotten_before core at (not_pending true m e core at (off_core m at flag) y.core_rests)) b y
+
+-- a clause that is attached after flags were taken away
+pub regrouped_attached : (m f n : Memory) (at : ℕ) (p : Part) → AreCleared m f → IsMoved f n at p → IsRegrouped m n at
+regrouped_attached m f n at p x y = regrouped_on m f n at (regrouped_cleared m f at x) (regrouped_moved f n at p y)
+
+pub kept_attached : (m f n : Memory) (known : List ℕ) (e : Entries) (at : ℕ) (p : Part) → IsHeld m at → AreCleared m f → IsMoved f n at p → NoRepeats (cell_at n at).lits → IsKept e.vars m known e.lits e.reasons → IsKept e.vars n known e.lits e.reasons
+kept_attached m f n known e at p held x y once k =
+    let all : (r : ℕ) → NoRepeats (cell_at f r).lits = (λ r. subst NoRepeats (sym (x.each r).lits) (distinct_cells m e k.sound r)) in
+    kept_regrouped m n known e at (regrouped_attached m f n at p x y) held (moved_once f n at p y once all) (λ i lt q. y.marked) k
+
+pub attached_here : (m : Memory) (e : Entries) (r : ℕ) → (cell_at m r).marked ≡ true → IsAttached (joined e m) r
+attached_here m e r h = is_marked m e r ∙ h

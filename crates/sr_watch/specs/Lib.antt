@@ -8,6 +8,8 @@ pub mod Scanning
 pub mod Running
 pub mod Trail
 pub mod Marks
+pub mod Queued
+pub mod Collecting
 pub mod Watching
 pub mod Walking
 pub mod Resting
@@ -15,3 +17,4 @@ pub mod Rising
 pub mod Attaching
 pub mod Purging
 pub mod Parting
+pub mod Reasons

@@ -1,5 +1,5 @@
 -- One step of propagation, and one step of collecting a chain.
-use Rattle.std.specs.Prelude.{ℕ, ◌≡◌, ◌≢◌, ◌<◌, ◌⊎◌, true, false, Option, Some, None, List, [], ◌∷◌, ◌++◌, take, slice_index_or}
+use Rattle.std.specs.Prelude.{ℕ, ◌≡◌, ◌≢◌, ◌<◌, ◌⊎◌, true, false, Option, Some, None, List, [], ◌∷◌, ◌++◌, length, take, slice_index_or}
 use Rattle.sr_base.specs.Literal.{Literal, plus, complement, has}
 use Rattle.sr_model.specs.Refutation.{IsClosed, has_empty}
 use Rattle.sr_model.specs.Substitution.{has_pair}
@@ -42,6 +42,10 @@ asked_clause Still = 0
 asked_clause (Conflict at) = at
 asked_clause (Pair l) = 0
 
+-- each derived entry was neither true nor false
+abbrev pub AreNews : List Literal → List ℕ → Type 0
+AreNews ls rs = (i : ℕ) → i < length ls → slice_index_or rs i 0 ≢ 0 → IsOpen (slice_index_or ls i (plus 0)) (take i ls)
+
 -- no derived entry of the first ones has its complement assumed
 abbrev pub NoClash : List Literal → List ℕ → ℕ → Type 0
 NoClash ls rs n = (i : ℕ) → i < n → slice_index_or rs i 0 ≢ 0 → has (complement (slice_index_or ls i (plus 0))) (assumed_in ls rs) ≡ false
@@ -49,6 +53,13 @@ NoClash ls rs n = (i : ℕ) → i < n → slice_index_or rs i 0 ≢ 0 → has (c
 pub record IsClash (ls : List Literal) (rs : List ℕ) (i : ℕ) : Type 0 where
   pub derived : slice_index_or rs i 0 ≢ 0
   pub assumed : has (complement (slice_index_or ls i (plus 0))) (assumed_in ls rs) ≡ true
+
+-- an entry is derived, and its complement is assumed by the other one
+pub record ClashesWith (ls : List Literal) (rs : List ℕ) (i j : ℕ) : Type 0 where
+  pub within : i < length ls
+  pub derived : slice_index_or rs i 0 ≢ 0
+  pub assumed : slice_index_or rs j 0 ≡ 0
+  pub complement : complement (slice_index_or ls i (plus 0)) ≡ slice_index_or ls j (plus 0)
 
 -- the literal is assumed, or of one of the first entries
 abbrev pub IsEarly : State → ℕ → Literal → Type 0

@@ -67,3 +67,16 @@ pub record IsPairAt (ls : List Literal) (n : ℕ) : Type 0 where
 pub record IsClashAt (ls : List Literal) (n : ℕ) : Type 0 where
   pub none : n ≡ 0 → has_pair ls ≡ false
   pub some : 0 < n → IsPairAt ls (n - 1)
+
+-- 0 where no literal and its complement are assumed, and else one more than the first place whose literal is assumed after
+-- its complement was
+pub record IsAssumedPairAt (ls : List Literal) (rs : List ℕ) (n : ℕ) : Type 0 where
+  pub within : n ≤ length ls
+  pub none : n ≡ 0 → has_pair (assumed_in ls rs) ≡ false
+  pub some : 0 < n → has_pair (assumed_in (take n ls) (take n rs)) ≡ true
+  pub none_before : 0 < n → has_pair (assumed_in (take (n - 1) ls) (take (n - 1) rs)) ≡ false
+
+-- how many entries come before the first assumed one
+abbrev pub root_length : List ℕ → ℕ
+root_length [] = 0
+root_length (r ∷ rs) = cond (r == 0) 0 (suc (root_length rs))

@@ -1,63 +1,74 @@
-// What a chain begins from: an assumed pair, or the first derived literal whose complement is assumed.
-ghost use Rattle.std.specs.Prelude.{ℕ, ◌≡◌, ◌≢◌, ◌<◌, ◌≤◌, [], ◌∷◌, ◌++◌, length, reverse, true, false, slice_index_or, OnOk, MatchOption};
-ghost use Rattle.sr_base.specs.Literal.{complement, has, plus};
-ghost use Rattle.sr_model.specs.Substitution.{has_pair};
-ghost use Rattle.sr_watch.specs.Running.{IsClash, NoClash, ClosesAt, AreAttached, IsSpare, IsUsed};
-ghost use Rattle.sr_watch.specs.State.{IsAttached, IsSound};
+// Lean chains. A chain begins from the first derived literal whose complement is assumed, or from a false clause.
+ghost use Rattle.std.specs.Prelude.{ℕ, ◌≡◌, ◌≢◌, ◌<◌, ◌≤◌, [], length, reverse, slice_index_or, OnOk};
+ghost use Rattle.sr_watch.specs.Running.{AreNews, IsClash, ClashesWith, NoClash, ClosesAt};
+ghost use Rattle.sr_watch.specs.State.{IsSound};
 ghost use Rattle.sr_watch.specs.Lean.{IsChain};
-ghost use Rattle.sr_watch.specs.Marks.{joined, AreReady, AreMarked};
-ghost use Rattle.sr_watch.specs.Trail.{table_size, assumed_of};
+ghost use Rattle.sr_watch.specs.Marks.{joined, AreReady};
+ghost use Rattle.sr_watch.specs.Collecting.{IsCollecting, IsListed, IsLeft};
 
-use crate::marks::Marks;
+use crate::needed::{Needed, list, unmark, used_reason};
 use crate::trail::Trail;
 use sr_arena::{ClauseMem, Cref, CrefList, Steps};
-use sr_base::{Lit, NoMemory};
+use sr_base::NoMemory;
 use std::sync::ledger::Ledger;
-
-/// Whether a literal and its complement are assumed.
-pub fn assumed_pair(trail: &Trail) -> bool
-    ensures { result ≡ has_pair (assumed_of trail.now) }
-{
-    if trail.clash() == 0 {
-        return false;
-    }
-    let lits = trail.lits();
-    for l in lits {
-        if trail.is_assumed(*l) && trail.is_assumed(l.neg()) {
-            return true;
-        }
-    }
-    false
-}
 
 /// Where the first derived entry stands whose complement is assumed; the number of entries where there is
 /// none.
+///
+/// It looks only at the entries from the first on whose complement comes before it.
 pub fn first_clash(trail: &Trail) -> usize
+    requires { AreNews trail.now.lits trail.now.reasons }
     ensures within { result ≤ length trail.now.lits }
     ensures before { NoClash trail.now.lits trail.now.reasons result }
     ensures here { result < length trail.now.lits → IsClash trail.now.lits trail.now.reasons result }
 {
+    let count = trail.lits().len();
+    let pair = trail.clash() as usize;
+    if pair == 0 {
+        return count;
+    }
+    let mut first = count;
+    for i in pair - 1..count {
+        first = first.min(clash_with(trail, i));
+    }
+    first
+}
+
+/// Where the complement of an assumed entry is derived; the number of entries where it isn't, and for a
+/// derived entry.
+fn clash_with(trail: &Trail, i: usize) -> usize
+    requires news { AreNews trail.now.lits trail.now.reasons }
+    requires place { i < length trail.now.lits }
+    ensures within { result ≤ length trail.now.lits }
+    ensures here { result < length trail.now.lits → IsClash trail.now.lits trail.now.reasons result }
+    ensures only { (j : ℕ) → ClashesWith trail.now.lits trail.now.reasons j i → result ≤ j }
+{
     let lits = trail.lits();
-    if trail.clash() == 0 {
+    let reasons = trail.reasons();
+    if reasons[i] != 0 {
         return lits.len();
     }
-    let reasons = trail.reasons();
-    for i in 0..lits.len() {
-        if reasons[i] != 0 && trail.is_assumed(lits[i].neg()) {
-            return i;
-        }
+    let place = trail.place(lits[i].neg()) as usize;
+    if place == 0 {
+        return lits.len();
     }
-    lits.len()
+    if reasons[place - 1] == 0 {
+        return lits.len();
+    }
+    place - 1
 }
 
 /// Lists the clause and, from the last entry to the first, each reason that the clauses listed so far stand
 /// on.
+///
+/// The entries from `base` on are looked at one by one, and of those below it only the ones that are needed.
 pub fn collect<L: Ledger>(
     trail: &Trail,
     memory: &ClauseMem,
-    needed: &mut Marks,
+    needed: &mut Needed,
     last: Cref,
     end: usize,
+    base: usize,
     chain: &mut CrefList,
     steps: &mut Steps<L>,
 ) -> Result<(), NoMemory>
@@ -65,12 +76,14 @@ pub fn collect<L: Ledger>(
     requires end { end ≤ length trail.now.lits }
     requires ends { ClosesAt (joined trail.now memory.now) last end }
     requires empty { chain.old ≡ [] }
-    requires ready { AreReady needed.old trail.now.vars }
+    requires ready { AreReady needed.old.marks trail.now.vars }
     ensures ok { OnOk result (IsChain (joined trail.now memory.now) last (reverse chain.new)) }
-    ensures ready { AreReady needed.new trail.now.vars }
+    ensures ready { AreReady needed.new.marks trail.now.vars }
 {
-    let result = collect_marked(trail, memory, needed, last, end, chain, steps);
-    unmark(trail, memory, needed, chain.as_slice(), steps);
+    needed.queue.clear();
+    let base = base.min(end);
+    let result = collect_marked(trail, memory, needed, last, end, base, chain, steps);
+    unmark(trail, memory, &mut needed.marks, chain.as_slice(), steps);
     result
 }
 
@@ -78,94 +91,78 @@ pub fn collect<L: Ledger>(
 fn collect_marked<L: Ledger>(
     trail: &Trail,
     memory: &ClauseMem,
-    needed: &mut Marks,
+    needed: &mut Needed,
     last: Cref,
     end: usize,
+    base: usize,
     chain: &mut CrefList,
     steps: &mut Steps<L>,
 ) -> Result<(), NoMemory>
     requires sound { IsSound (joined trail.now memory.now) }
     requires end { end ≤ length trail.now.lits }
+    requires base { base ≤ end }
     requires ends { ClosesAt (joined trail.now memory.now) last end }
     requires empty { chain.old ≡ [] }
-    requires ready { AreReady needed.old trail.now.vars }
+    requires ready { AreReady needed.old.marks trail.now.vars }
     ensures ok { OnOk result (IsChain (joined trail.now memory.now) last (reverse chain.new)) }
-    ensures attached { AreAttached (joined trail.now memory.now) chain.new }
-    ensures marked { AreMarked (joined trail.now memory.now) chain.new needed.new }
-    ensures room { table_size trail.now.vars ≤ length needed.new }
+    ensures left { IsLeft (joined trail.now memory.now) chain.new needed.new.marks }
 {
-    list(trail, memory, needed, last, chain, steps)?;
+    list(trail, memory, needed, last, base, chain, steps)?;
+    collect_above(trail, memory, needed, end, base, chain, steps)?;
+    collect_below(trail, memory, needed, base, chain, steps)
+}
+
+/// Lists the reasons of needed entries from `base` on, the last of them below `end`.
+fn collect_above<L: Ledger>(
+    trail: &Trail,
+    memory: &ClauseMem,
+    needed: &mut Needed,
+    end: usize,
+    base: usize,
+    chain: &mut CrefList,
+    steps: &mut Steps<L>,
+) -> Result<(), NoMemory>
+    requires sound { IsSound (joined trail.now memory.now) }
+    requires end { end ≤ length trail.now.lits }
+    requires base { base ≤ end }
+    requires no_clash { NoClash trail.now.lits trail.now.reasons end }
+    requires listed { IsListed (joined trail.now memory.now) base chain.old needed.old.marks needed.old.queue }
+    ensures ok { OnOk result ((at : ℕ) → IsCollecting (joined trail.now memory.now) at end chain.old → IsCollecting (joined trail.now memory.now) at base chain.new) }
+    ensures listed { OnOk result (IsListed (joined trail.now memory.now) base chain.new needed.new.marks needed.new.queue) }
+    ensures left { IsLeft (joined trail.now memory.now) chain.new needed.new.marks }
+{
     let mut place = end;
-    while place > 0 {
+    while place > base {
         place -= 1;
-        if let Some(reason) = used_reason(trail, memory, needed, place, chain.as_slice()) {
-            list(trail, memory, needed, reason, chain, steps)?;
+        if let Some(reason) = used_reason(trail, memory, &needed.marks, place, chain.as_slice()) {
+            list(trail, memory, needed, reason, base, chain, steps)?;
         }
     }
     Ok(())
 }
 
-/// Adds a clause to the chain, and marks the complements of its literals.
-fn list<L: Ledger>(
+/// Lists the reasons of needed entries below `base`.
+fn collect_below<L: Ledger>(
     trail: &Trail,
     memory: &ClauseMem,
-    needed: &mut Marks,
-    at: Cref,
+    needed: &mut Needed,
+    base: usize,
     chain: &mut CrefList,
     steps: &mut Steps<L>,
 ) -> Result<(), NoMemory>
     requires sound { IsSound (joined trail.now memory.now) }
-    requires attached { IsAttached (joined trail.now memory.now) at }
-    requires chain { AreAttached (joined trail.now memory.now) chain.old }
-    requires marked { AreMarked (joined trail.now memory.now) chain.old needed.old }
-    requires room { table_size trail.now.vars ≤ length needed.old }
-    ensures ok { OnOk result (chain.new ≡ chain.old ++ at ∷ []) }
-    ensures chain { AreAttached (joined trail.now memory.now) chain.new }
-    ensures marked { AreMarked (joined trail.now memory.now) chain.new needed.new }
-    ensures room { table_size trail.now.vars ≤ length needed.new }
+    requires base { base ≤ length trail.now.lits }
+    requires no_clash { NoClash trail.now.lits trail.now.reasons base }
+    requires listed { IsListed (joined trail.now memory.now) base chain.old needed.old.marks needed.old.queue }
+    ensures ok { OnOk result ((at : ℕ) → IsCollecting (joined trail.now memory.now) at base chain.old → IsCollecting (joined trail.now memory.now) at 0 chain.new) }
+    ensures left { IsLeft (joined trail.now memory.now) chain.new needed.new.marks }
 {
-    chain.push(at)?;
-    needed.mark(memory.lits(at, steps), trail.vars(), true);
+    let mut place = base;
+    while let Some(next) = needed.queue.next_below(place) {
+        place = next;
+        if let Some(reason) = used_reason(trail, memory, &needed.marks, place, chain.as_slice()) {
+            list(trail, memory, needed, reason, place, chain, steps)?;
+        }
+    }
     Ok(())
-}
-
-/// The reason of an entry that isn't assumed, where one of these clauses stands on it.
-fn used_reason(
-    trail: &Trail,
-    memory: &ClauseMem,
-    needed: &Marks,
-    place: usize,
-    chain: &[Cref],
-) -> Option<Cref>
-    requires sound { IsSound (joined trail.now memory.now) }
-    requires place { place < length trail.now.lits }
-    requires marked { AreMarked (joined trail.now memory.now) chain.now needed.now }
-    requires room { table_size trail.now.vars ≤ length needed.now }
-    ensures { let s = joined trail.now memory.now in MatchOption result (IsSpare s place chain.now) (λ r. IsUsed s place chain.now r) }
-{
-    let reason = Cref::from_index(trail.reasons()[place])?;
-    let l = trail.lits()[place];
-    if trail.is_assumed(l) || !needed.is_marked(l, trail.vars()) {
-        return None;
-    }
-    Some(reason)
-}
-
-/// Takes the marks away that the clauses of a chain left.
-fn unmark<L: Ledger>(
-    trail: &Trail,
-    memory: &ClauseMem,
-    needed: &mut Marks,
-    chain: &[Cref],
-    steps: &mut Steps<L>,
-)
-    requires sound { IsSound (joined trail.now memory.now) }
-    requires attached { AreAttached (joined trail.now memory.now) chain.now }
-    requires marked { AreMarked (joined trail.now memory.now) chain.now needed.old }
-    requires room { table_size trail.now.vars ≤ length needed.old }
-    ensures { AreReady needed.new trail.now.vars }
-{
-    for at in chain {
-        needed.mark(memory.lits(*at, steps), trail.vars(), false);
-    }
 }

@@ -7,14 +7,19 @@
 mod attaching;
 mod chains;
 mod closing;
+mod cutting;
 mod examining;
 mod marks;
+mod needed;
 mod parting;
 mod parts;
 mod propagator;
 mod purging;
+mod queue;
+mod reasons;
 mod scanning;
 mod settling;
+mod spares;
 #[cfg(test)]
 mod tests;
 mod trail;

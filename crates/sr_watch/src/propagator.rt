@@ -7,17 +7,19 @@ ghost use Rattle.sr_watch.specs.Changes.{IsAdded, with_part, cut_to, with_assume
 ghost use Rattle.sr_watch.specs.Meaning.{Means, IsLeast, IsAsked};
 ghost use Rattle.sr_watch.specs.Lean.{IsChain, stands_in};
 ghost use Rattle.sr_watch.specs.Running.{FindsSelf, asked_clause, ClosesAt, AreAttached, IsSpare, IsUsed};
-ghost use Rattle.sr_arena.specs.Cells.{Memory};
-ghost use Rattle.sr_watch.specs.Trail.{first_entries};
-ghost use Rattle.sr_watch.specs.Resting.{AreWatched};
 ghost use Rattle.sr_base.specs.declared.literal.TheConstants.{MOST_VARS};
 
-use crate::chains::{assumed_pair, collect, first_clash};
+use crate::chains::{collect, first_clash};
 use crate::closing::close_part;
+use crate::cutting::cut;
 use crate::marks::Marks;
+use crate::needed::Needed;
 use crate::parting::{attach_to, forget, freshen, set_part};
 use crate::parts::{Found, Part};
-use crate::scanning::{place_of, reason_of, value_of};
+use crate::queue::Queue;
+use crate::reasons::{release, take_over};
+use crate::scanning::{reason_of, value_of};
+use crate::spares::Spares;
 use crate::trail::Trail;
 use crate::watches::Watches;
 use sr_arena::{ClauseMem, Cref, CrefList, Steps};
@@ -29,16 +31,18 @@ use std::sync::ledger::Ledger;
 /// Clauses, and literals that are assumed or derived from them.
 ///
 /// Clauses are held under references. Those that are attached propagate, as the core or as the rest. Only
-/// `grow` and `add` take memory: with the room that they make, all other calls always give their answer. The
-/// order of a clause's literals is the propagator's own affair.
+/// `grow`, `add` and `chain` take memory: with the room that the first two make, all other calls always give
+/// their answer. The order of a clause's literals is the propagator's own affair.
 #[derive(Drop)]
 pub struct Propagator {
     memory: ClauseMem,
     known: Vec<Cref>,
     most: u32,
     trail: Trail,
-    /// The literals whose entries a chain stands on; none between calls.
-    needed: Marks,
+    /// What a chain stands on; no literals are marked between calls.
+    needed: Needed,
+    /// The reasons that clauses of one literal took over from.
+    spares: Spares,
     core: Watches,
     rest: Watches,
 }
@@ -48,6 +52,7 @@ impl Model for Propagator {
     ghost use Rattle.sr_watch.specs.State.{State};
     ghost use Rattle.sr_watch.specs.Inside.{state_of, IsKept};
     ghost use Rattle.sr_watch.specs.Marks.{AreReady};
+    ghost use Rattle.sr_watch.specs.Reasons.{AreSpares};
     ghost use Rattle.sr_watch.specs.Resting.{AreWatched};
     ghost use Rattle.sr_arena.specs.Cells.{held_cells};
     ghost use Rattle.sr_base.specs.declared.limits.TheConstants.{MOST_CELLS};
@@ -57,8 +62,8 @@ impl Model for Propagator {
     ghost view = { λ p. state_of p.trail.vars p.memory p.trail.lits p.trail.reasons };
 
     ghost invariant = { λ p. IsKept p.trail.vars p.memory p.known.items p.trail.lits p.trail.reasons × (p.most ≡ p.memory.most)
-        × (p.most ≤ MOST_CELLS) × (p.memory.used ≡ held_cells p.memory) × AreReady p.needed p.trail.vars
-        × AreWatched p.memory p.known.items p.trail p.core p.rest };
+        × (p.most ≤ MOST_CELLS) × (p.memory.used ≡ held_cells p.memory) × AreReady p.needed.marks p.trail.vars
+        × AreWatched p.memory p.known.items p.trail p.core p.rest × AreSpares p.memory p.trail.vars p.spares };
 }
 
 impl Propagator {
@@ -71,7 +76,11 @@ impl Propagator {
             known: Vec::new(alloc),
             most: limits.cells(),
             trail: Trail::new(alloc),
-            needed: Marks::new(alloc),
+            needed: Needed {
+                marks: Marks::new(alloc),
+                queue: Queue::new(alloc),
+            },
+            spares: Spares::new(alloc),
             core: Watches::new(alloc),
             rest: Watches::new(alloc),
         }
@@ -87,7 +96,8 @@ impl Propagator {
         if var <= self.trail.vars() {
             return Ok(());
         }
-        self.needed.grow(var)?;
+        self.needed.marks.grow(var)?;
+        self.spares.grow(var)?;
         self.core.grow(var)?;
         self.rest.grow(var)?;
         self.trail.grow(var)
@@ -185,7 +195,8 @@ impl Propagator {
         self.memory.held_cells()
     }
 
-    /// Attaches a held clause to a part. What it forces is found by the next propagation.
+    /// Attaches a held clause to a part. What it forces is found by the next propagation; a clause of one literal becomes the
+    /// reason of that literal's derived entry at once, where the reason has more literals.
     pub fn attach(&mut self, at: Cref, part: Part)
         requires held { IsHeld self.old at }
         requires loose { (slot_at self.old at).part ≡ None }
@@ -207,6 +218,7 @@ impl Propagator {
             at,
             part,
         );
+        take_over(&self.memory, &mut self.trail, &mut self.spares, at);
     }
 
     /// Detaches a clause. Where an entry's reason goes and no other takes over, that entry and all after it
@@ -216,8 +228,14 @@ impl Propagator {
         ensures value { (n : ℕ) × IsDetached self.old self.new at n }
         ensures cells { held_cells self.new ≡ held_cells self.old }
     {
-        let place = place_of(self.trail.reasons(), at);
-        cut(&mut self.trail, &mut self.core, &mut self.rest, place);
+        release(
+            &self.memory,
+            &mut self.trail,
+            &mut self.core,
+            &mut self.rest,
+            &self.spares,
+            at,
+        );
         forget(&mut self.core, at);
         forget(&mut self.rest, at);
         set_part(&mut self.memory, at, None);
@@ -358,17 +376,19 @@ impl Propagator {
         ensures ok { OnOk result (IsChain self.old at chain.new) }
         ensures err { OnErr result (chain.new ≡ []) }
     {
-        if assumed_pair(&self.trail) {
+        if self.trail.has_assumed_pair() {
             return Ok(());
         }
         let end = first_clash(&self.trail);
         let last = self.closing(end, at);
+        let base = self.trail.root_len().max(self.rest.kept_len());
         match collect(
             &self.trail,
             &self.memory,
             &mut self.needed,
             last,
             end,
+            base,
             chain,
             steps,
         ) {
@@ -419,19 +439,4 @@ impl Propagator {
             Some(at) => Some(Found::Conflict(at)),
         }
     }
-}
-
-/// Keeps the first entries alone.
-fn cut(trail: &mut Trail, core: &mut Watches, rest: &mut Watches, mark: usize)
-    requires mark { mark ≤ length trail.old.lits }
-    requires watched { (m : Memory) × (known : List ℕ) × AreWatched m known trail.old core.old rest.old }
-    ensures value { trail.new ≡ first_entries trail.old mark }
-    ensures watched { (m : Memory) (known : List ℕ) → AreWatched m known trail.old core.old rest.old → AreWatched m known trail.new core.new rest.new }
-{
-    if mark == trail.lits().len() {
-        return;
-    }
-    trail.cut(mark);
-    core.fall_back(mark);
-    rest.fall_back(mark);
 }

@@ -2,7 +2,6 @@
 ghost use Rattle.std.specs.Prelude.{ℕ, ◌≡◌, ◌≢◌, ◌<◌, ◌≤◌, length, None, Some, true, false, cond, ◌==◌, ◌||◌, nat_lt, slice_index_or};
 ghost use Rattle.sr_watch.specs.State.{reason_in};
 
-use sr_arena::Cref;
 use sr_base::Lit;
 
 /// What the first entry of a literal's variable makes it, by one more than the first places of it and its
@@ -29,19 +28,4 @@ pub fn reason_of(trail: &[Lit], reasons: &[u32], var: u32) -> u32
         }
     }
     0
-}
-
-/// Where the first entry with this reason stands; the number of entries where there is none.
-pub fn place_of(reasons: &[u32], at: Cref) -> usize
-    ensures within { result ≤ length reasons.now }
-    ensures before { (i : ℕ) → i < result → slice_index_or reasons.now i 0 ≢ at }
-    ensures here { result < length reasons.now → slice_index_or reasons.now result 0 ≡ at }
-{
-    let index = at.index();
-    for i in 0..reasons.len() {
-        if reasons[i] == index {
-            return i;
-        }
-    }
-    reasons.len()
 }

@@ -89,24 +89,70 @@ impl Bench {
                 }
             }
         }
-        let clause = Clause::from_list(alloc, lits)?;
-        self.hold(&clause)?;
-        if self.refs.len() > self.clauses.len() {
-            self.clauses.push(clause.into_list())?;
-        }
-        Ok(())
+        self.hold(Clause::from_list(alloc, lits)?)
     }
 
     /// Holds a clause, where its variables have room.
-    fn hold(&mut self, clause: &Clause) -> Result<(), Fail> {
-        let lits = clause.lits();
-        if !are_within(lits, self.propagator.vars()) {
+    fn hold(&mut self, clause: Clause) -> Result<(), Fail> {
+        if !are_within(clause.lits(), self.propagator.vars()) {
             return Ok(());
         }
         self.refs.reserve(1)?;
-        let at = self.propagator.add(lits, 7)?;
+        let at = self.propagator.add(clause.lits(), 7)?;
         self.refs.push_reserved(at);
+        self.clauses.push(clause.into_list())?;
         Ok(())
+    }
+
+    /// Holds a clause of these literals.
+    fn hold_all(&mut self, alloc: Global, numbers: &[i64]) -> Result<(), Fail> {
+        let mut lits = Items::new(alloc);
+        for number in numbers {
+            lits.push(Lit::new(*number).ok_or("no literal")?)?;
+        }
+        self.hold(Clause::from_list(alloc, lits)?)
+    }
+
+    /// Attaches a clause of one literal, one that was derived.
+    fn cover(&mut self, alloc: Global, part: Part) -> Result<(), Fail> {
+        let Some(l) = self.literal() else {
+            return Ok(());
+        };
+        if self.reason(l.var()).is_none() || !has(self.propagator.entries(), l) {
+            return Ok(());
+        }
+        let mut lits = Items::new(alloc);
+        lits.push(l)?;
+        let i = self.refs.len();
+        self.hold(Clause::from_list(alloc, lits)?)?;
+        self.attach(i, part);
+        Ok(())
+    }
+
+    /// Which clause is the reason of a variable.
+    fn reason(&self, var: u32) -> Option<usize> {
+        if var > self.propagator.vars() {
+            return None;
+        }
+        let at = self.propagator.reason(var)?;
+        for i in 0..self.refs.len() {
+            if self.refs[i] == at {
+                return Some(i);
+            }
+        }
+        None
+    }
+
+    /// The reason of the second variable, and the number of entries.
+    fn second(&self) -> (Option<usize>, usize) {
+        (self.reason(2), self.propagator.mark())
+    }
+
+    /// Detaches the reason of a variable.
+    fn detach_reason(&mut self, var: u32) {
+        if let Some(i) = self.reason(var) {
+            self.detach(i);
+        }
     }
 
     /// One of the references; none where there is none.
@@ -214,13 +260,9 @@ impl Bench {
     /// Whether all reasons are of the core.
     fn has_core_reasons(&self) -> bool {
         for var in 1..6u32 {
-            if var <= self.propagator.vars() {
-                if let Some(at) = self.propagator.reason(var) {
-                    for i in 0..self.refs.len() {
-                        if self.refs[i] == at && self.part(i) != Some(Part::Core) {
-                            return false;
-                        }
-                    }
+            if let Some(i) = self.reason(var) {
+                if self.part(i) != Some(Part::Core) {
+                    return false;
                 }
             }
         }
@@ -249,7 +291,7 @@ impl Bench {
 
     /// One random call.
     fn act<L: Ledger>(&mut self, alloc: Global, steps: &mut Steps<L>) -> Result<bool, Fail> {
-        let what = self.below(12);
+        let what = self.below(16);
         let i = self.choose().unwrap_or(0);
         let part = if self.below(2) == 0 {
             Part::Core
@@ -269,6 +311,12 @@ impl Bench {
             9 => {
                 let mark = self.below(8) as usize;
                 self.undo(mark);
+            }
+            10 | 11 => self.cover(alloc, part)?,
+            12 | 13 => {
+                if let Some(l) = self.literal() {
+                    self.detach_reason(l.var());
+                }
             }
             _ => return self.propagate(alloc, part, steps),
         }
@@ -294,12 +342,7 @@ fn mistakes<L: Ledger>(alloc: Global, runs: u64, steps: &mut Steps<L>) -> Result
 fn four_clauses(alloc: Global) -> Result<Bench, Fail> {
     let mut bench = Bench::new(alloc, 0)?;
     for pair in [[1, 2], [-1, 2], [1, -2], [-1, -2]] {
-        let mut lits = Items::new(alloc);
-        for number in pair {
-            lits.push(Lit::new(number).ok_or("no literal")?)?;
-        }
-        let clause = Clause::from_list(alloc, lits)?;
-        bench.hold(&clause)?;
+        bench.hold_all(alloc, &pair)?;
     }
     for i in 0..4 {
         bench.attach(i, Part::All);
@@ -325,6 +368,79 @@ fn is_still_once<L: Ledger>(alloc: Global, number: i64, blank: Blank) -> Result<
 {
     let mut steps = Steps::<L>::new(blank);
     is_still(alloc, number, &mut steps)
+}
+
+/// A propagator with the entries 1 and 2: clause 0 has 1, clause 1 has -1 and 2, and 2 and 3 have 2 alone.
+fn two_entries<L: Ledger>(alloc: Global, steps: &mut Steps<L>) -> Result<Bench, Fail> {
+    let mut bench = Bench::new(alloc, 0)?;
+    bench.hold_all(alloc, &[1])?;
+    bench.hold_all(alloc, &[-1, 2])?;
+    bench.hold_all(alloc, &[2])?;
+    bench.hold_all(alloc, &[2])?;
+    bench.attach(0, Part::All);
+    bench.attach(1, Part::All);
+    bench.propagator.propagate(Part::All, steps);
+    Ok(bench)
+}
+
+/// The reason of the second entry and the number of entries, as clauses of one literal come and reasons go.
+fn successions<L: Ledger>(
+    alloc: Global,
+    steps: &mut Steps<L>,
+) -> Result<Vec<(Option<usize>, usize)>, Fail> {
+    let mut bench = two_entries(alloc, steps)?;
+    let mut seen = Vec::new(alloc);
+    seen.push(bench.second())?;
+    bench.attach(2, Part::All);
+    seen.push(bench.second())?;
+    bench.detach(1);
+    seen.push(bench.second())?;
+    bench.attach(1, Part::All);
+    bench.attach(3, Part::Core);
+    seen.push(bench.second())?;
+    bench.detach(3);
+    bench.detach(2);
+    seen.push(bench.second())?;
+    bench.detach(1);
+    seen.push(bench.second())?;
+    Ok(seen)
+}
+
+/// The number of entries once a clause of one literal is detached that took over from one of two literals, where the other one
+/// of these became false later.
+fn left_entries<L: Ledger>(alloc: Global, steps: &mut Steps<L>) -> Result<usize, Fail> {
+    let mut bench = Bench::new(alloc, 0)?;
+    bench.hold_all(alloc, &[1, 2])?;
+    bench.hold_all(alloc, &[2])?;
+    let l = Lit::new(-1).ok_or("no literal")?;
+    bench.attach(0, Part::All);
+    bench.assume(l)?;
+    bench.propagator.propagate(Part::All, steps);
+    bench.attach(1, Part::All);
+    bench.undo(0);
+    bench.propagator.propagate(Part::All, steps);
+    bench.assume(l)?;
+    bench.detach(1);
+    Ok(bench.propagator.mark())
+}
+
+/// Both.
+fn successions_once<L: Ledger>(
+    alloc: Global,
+    blank: Blank,
+) -> Result<(Vec<(Option<usize>, usize)>, usize), Fail>
+    requires name { blank.name ≡ L.name }
+    requires parts { blank.parts ≡ L.parts }
+    requires some { 0 < blank.parts }
+{
+    let mut steps = Steps::<L>::new(blank);
+    let seen = successions(alloc, &mut steps)?;
+    let left = left_entries(alloc, &mut steps)?;
+    Ok((seen, left))
+}
+
+fn all_successions(alloc: Global) -> Result<(Vec<(Option<usize>, usize)>, usize), Fail> {
+    successions_once::<Brand>(alloc, Blank::new(1))
 }
 
 fn follows_nothing(alloc: Global, number: i64) -> Result<bool, Fail> {
@@ -355,5 +471,21 @@ fn random_calls(rt: HostRuntime) -> Result<(), Fail> {
 fn four_clauses_over_two_variables(rt: HostRuntime) -> Result<(), Fail> {
     assert!(rt; follows_nothing(rt.alloc(), 3)?);
     assert!(rt; !follows_nothing(rt.alloc(), -2)?);
+    Ok(())
+}
+
+#[test]
+fn clauses_of_one_literal_take_over(rt: HostRuntime) -> Result<(), Fail> {
+    let (seen, left) = all_successions(rt.alloc())?;
+    let wanted = [
+        (Some(1), 2),
+        (Some(2), 2),
+        (Some(2), 2),
+        (Some(2), 2),
+        (Some(1), 2),
+        (None, 1),
+    ];
+    assert_eq!(rt; seen.as_slice(), wanted.as_slice());
+    assert_eq!(rt; left, 0);
     Ok(())
 }

@@ -1,8 +1,10 @@
 // The list of entries, with tables that tell at once where a literal comes first and whether it is assumed.
-ghost use Rattle.std.specs.Prelude.{ℕ, ◌≡◌, ◌≤◌, ◌<◌, ◌+◌, ◌-◌, ◌*◌, [], ◌++◌, replicate, length, max, cond, slice_index_or, slice_set, ◌==◌, vec_capacity, IsOk, OnOk, OnErr};
-ghost use Rattle.sr_base.specs.Literal.{has, variable};
+ghost use Rattle.std.specs.Prelude.{ℕ, ◌≡◌, ◌≢◌, ◌≤◌, ◌<◌, ◌+◌, ◌-◌, ◌*◌, [], ◌++◌, replicate, length, max, min, cond, false, slice_index_or, slice_set, ◌==◌, vec_capacity, IsOk, OnOk, OnErr};
+ghost use Rattle.sr_base.specs.Literal.{complement, has, variable};
 ghost use Rattle.sr_base.specs.declared.literal.TheConstants.{MOST_VARS};
-ghost use Rattle.sr_watch.specs.Trail.{Entries, place_in, assumed_of, with_entry, first_entries, MayEnter, AreEntries, IsClashAt};
+ghost use Rattle.sr_model.specs.Substitution.{has_pair};
+ghost use Rattle.sr_watch.specs.Reasons.{with_reason};
+ghost use Rattle.sr_watch.specs.Trail.{Entries, place_in, assumed_of, with_entry, first_entries, MayEnter, AreEntries, IsClashAt, root_length};
 
 use sr_base::{Lit, NoMemory};
 use std::alloc::Global;
@@ -20,11 +22,15 @@ pub struct Trail {
     marks: Vec<bool>,
     /// One more than the place of the first entry whose complement comes before it, or 0.
     clash: u32,
+    /// One more than the place of the first assumed entry whose complement was assumed before it, or 0.
+    pair: u32,
+    /// How many entries come before the first assumed one.
+    root: u32,
 }
 
 impl Model for Trail {
-    ghost use Rattle.std.specs.Prelude.{◌≤◌, vec_capacity};
-    ghost use Rattle.sr_watch.specs.Trail.{Entries, AreEntries, AreTables, IsClashAt};
+    ghost use Rattle.std.specs.Prelude.{◌≡◌, ◌≤◌, vec_capacity};
+    ghost use Rattle.sr_watch.specs.Trail.{Entries, AreEntries, AreTables, IsClashAt, IsAssumedPairAt, root_length};
     ghost use Rattle.sr_watch.specs.Inside.{most_entries};
 
     ghost Value = { Entries };
@@ -33,7 +39,8 @@ impl Model for Trail {
 
     ghost invariant = { λ t. AreEntries (record { vars = t.vars; lits = t.lits.items; reasons = t.reasons.items })
         × AreTables (record { vars = t.vars; lits = t.lits.items; reasons = t.reasons.items }) t.first.items t.marks.items
-        × (most_entries t.vars ≤ vec_capacity t.lits) × (most_entries t.vars ≤ vec_capacity t.reasons) × IsClashAt t.lits.items t.clash };
+        × (most_entries t.vars ≤ vec_capacity t.lits) × (most_entries t.vars ≤ vec_capacity t.reasons) × IsClashAt t.lits.items t.clash
+        × IsAssumedPairAt t.lits.items t.reasons.items t.pair × (t.root ≡ root_length t.reasons.items) };
 }
 
 impl Trail {
@@ -48,6 +55,8 @@ impl Trail {
             first: Vec::new(alloc),
             marks: Vec::new(alloc),
             clash: 0,
+            pair: 0,
+            root: 0,
         }
     }
 
@@ -137,6 +146,34 @@ impl Trail {
         self.clash
     }
 
+    /// Whether a literal and its complement are assumed.
+    #[inline]
+    pub fn has_assumed_pair(&self) -> bool
+        ensures { result ≡ has_pair (assumed_of self.now) }
+    {
+        self.pair != 0
+    }
+
+    /// How many entries come before the first assumed one.
+    #[inline]
+    pub fn root_len(&self) -> usize
+        ensures { result ≡ root_length self.now.reasons }
+    {
+        self.root as usize
+    }
+
+    /// Whether a literal is to be assumed after its complement was.
+    #[inline]
+    fn makes_pair(&self, l: Lit, reason: u32) -> bool
+        requires { variable l ≤ self.now.vars }
+        ensures { result ≡ cond (reason == 0) (has (complement l) (assumed_of self.now)) false }
+    {
+        if reason != 0 {
+            return false;
+        }
+        self.is_assumed(l.neg())
+    }
+
     /// Adds an entry. It takes no memory.
     pub fn push(&mut self, l: Lit, reason: u32)
         requires { MayEnter self.old l reason }
@@ -144,14 +181,27 @@ impl Trail {
         ensures room { length self.new.lits ≤ 4 * self.new.vars + 4 }
     {
         let is_false = self.is_true(l.neg());
+        let makes_pair = self.makes_pair(l, reason);
         let _var = l.var();
         let code = l.code() as usize;
         let place = self.lits.len() as u32 + 1;
-        self.clash = clash_after(self.clash, is_false, place);
+        self.clash = first_after(self.clash, is_false, place);
+        self.pair = first_after(self.pair, makes_pair, place);
+        self.root = root_after(self.root, reason, place);
         replace(&mut self.first, code, 0, place);
         mark_if(&mut self.marks, code, reason == 0, true);
         self.lits.push_reserved(l);
         self.reasons.push_reserved(reason);
+    }
+
+    /// Gives a derived entry another reason.
+    pub fn set_reason(&mut self, place: usize, reason: u32)
+        requires within { place < length self.old.lits }
+        requires derived { slice_index_or self.old.reasons place 0 ≢ 0 }
+        requires some { reason ≢ 0 }
+        ensures { self.new ≡ with_reason self.old place reason }
+    {
+        self.reasons[place] = reason;
     }
 
     /// Takes the last entry away.
@@ -163,7 +213,9 @@ impl Trail {
         let l = self.lits[last];
         let _var = l.var();
         let code = l.code() as usize;
-        self.clash = clash_before(self.clash, last);
+        self.clash = first_within(self.clash, last);
+        self.pair = first_within(self.pair, last);
+        self.root = root_within(self.root, last);
         replace(&mut self.first, code, last as u32 + 1, 0);
         mark_if(&mut self.marks, code, self.reasons[last] == 0, false);
         self.lits.truncate(last);
@@ -182,24 +234,46 @@ impl Trail {
     }
 }
 
-/// The first clash after one more entry, whose complement is true or isn't.
+/// The first place of a kind after one more entry, which is of that kind or isn't; 0 where there is none.
 #[inline]
-fn clash_after(clash: u32, is_false: bool, place: u32) -> u32
-    ensures { result ≡ cond (clash == 0) (cond is_false place 0) clash }
+fn first_after(first: u32, is_one: bool, place: u32) -> u32
+    ensures { result ≡ cond (first == 0) (cond is_one place 0) first }
 {
-    if clash != 0 {
-        return clash;
+    if first != 0 {
+        return first;
     }
-    if is_false { place } else { 0 }
+    if is_one { place } else { 0 }
 }
 
-/// The first clash among the first entries alone.
+/// The first place of a kind among the first entries alone; 0 where there is none.
 #[inline]
-fn clash_before(clash: u32, count: usize) -> u32
-    ensures less { clash ≤ count → result ≡ clash }
-    ensures none { count < clash → result ≡ 0 }
+fn first_within(first: u32, count: usize) -> u32
+    ensures less { first ≤ count → result ≡ first }
+    ensures none { count < first → result ≡ 0 }
 {
-    if clash as usize > count { 0 } else { clash }
+    if first as usize > count { 0 } else { first }
+}
+
+/// How many entries come before the first assumed one, after one more entry.
+#[inline]
+fn root_after(root: u32, reason: u32, place: u32) -> u32
+    ensures { result ≡ cond (reason == 0) root (cond (root + 1 == place) place root) }
+{
+    if reason != 0 && root < place && place - root == 1 {
+        return place;
+    }
+    root
+}
+
+/// The same of the first entries alone.
+#[inline]
+fn root_within(root: u32, count: usize) -> u32
+    ensures { result ≡ min root count }
+{
+    if root as usize > count {
+        return count as u32;
+    }
+    root
 }
 
 /// Puts a number in the place of another one, where that stands there.

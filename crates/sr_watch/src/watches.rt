@@ -105,6 +105,14 @@ impl Watches {
         self.shade = fall_in(&mut self.lists, self.shade, mark);
     }
 
+    /// The greatest kept length; 0 where there is none.
+    #[inline]
+    pub fn kept_len(&self) -> usize
+        ensures { result ≡ last_above 0 self.now.kept.items }
+    {
+        last(&self.kept) as usize
+    }
+
     /// Notes that nothing more follows from so many entries, where there is room for that; and there is for as many as come.
     pub fn keep(&mut self, len: usize)
         requires rising { AreRising 0 self.old.kept.items }

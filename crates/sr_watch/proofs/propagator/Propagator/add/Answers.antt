@@ -1,7 +1,9 @@
 use Rattle.std.proofs.Common.{◌≡◌, ◌≤◌, ◌+◌, ◌∙◌, false, arith, ap, sym, subst, length, Result, Ok, Err, OnOk, is_err, rules}
 use Rattle.sr_watch.specs.State.{State, held_cells, held_clause, AreWithin}
 use Rattle.sr_watch.specs.Changes.{IsAdded}
+use Rattle.sr_arena.specs.Cells.{fresh}
 use Rattle.sr_arena.specs.Cells as arena
+use Rattle.sr_watch.proofs.Derivations.{spares_added}
 use Rattle.sr_watch.specs.Inside.{state_of}
 use Rattle.sr_watch.proofs.Keeping.{cells_are, kept_add, state_added}
 use Rattle.sr_watch.specs.Resting.{HasRoom}
@@ -31,6 +33,7 @@ invariant_of-self-in-Ok c =
           (subst (λ n. HasRoom (n + 1) c.reserve-2.new.self.lists) count (got c.reserve-2.result (sym c.if-is_err-2.ensures.value) c.reserve-2.ensures.ok))
           (subst (λ n. HasRoom (n + 1) c.reserve-3.new.self.lists) count (got c.reserve-3.result (sym c.if-is_err-3.ensures.value) c.reserve-3.ensures.ok))
           (watched_roomier c.self.inside.memory c.self.inside.known.items c.self.inside.trail c.self.inside.core c.reserve-2.new.self c.self.inside.rest c.reserve-3.new.self c.reserve-2.ensures.keeps c.reserve-3.ensures.keeps c.self.invariant.5),
+      spares_added c.self.inside.memory c.add.new.self c.self.inside.trail.vars c.in-Ok.at (fresh c.args.lits.now c.args.number) c.self.inside.spares c.in-Ok.ensures.ok c.self.invariant.6,
     )
 
 pub returns-in-Ok-clause-ok : goal.returns-in-Ok-clause-ok
@@ -54,10 +57,10 @@ add-requires c =
     omega (arith, c.self.invariant.2, c.self.invariant.3)
 
 pub invariant_of-self-then-is_err-2 : goal.invariant_of-self-then-is_err-2
-invariant_of-self-then-is_err-2 c = rw c.reserve.ensures.items (c.self.invariant.0, c.self.invariant.1, c.self.invariant.2, c.self.invariant.3, c.self.invariant.4, watched_roomier c.self.inside.memory c.self.inside.known.items c.self.inside.trail c.self.inside.core c.reserve-2.new.self c.self.inside.rest c.self.inside.rest c.reserve-2.ensures.keeps (no_roomier c.self.inside.rest) c.self.invariant.5)
+invariant_of-self-then-is_err-2 c = rw c.reserve.ensures.items (c.self.invariant.0, c.self.invariant.1, c.self.invariant.2, c.self.invariant.3, c.self.invariant.4, watched_roomier c.self.inside.memory c.self.inside.known.items c.self.inside.trail c.self.inside.core c.reserve-2.new.self c.self.inside.rest c.self.inside.rest c.reserve-2.ensures.keeps (no_roomier c.self.inside.rest) c.self.invariant.5, c.self.invariant.6)
 
 pub invariant_of-self-then-is_err-3 : goal.invariant_of-self-then-is_err-3
-invariant_of-self-then-is_err-3 c = rw c.reserve.ensures.items (c.self.invariant.0, c.self.invariant.1, c.self.invariant.2, c.self.invariant.3, c.self.invariant.4, watched_roomier c.self.inside.memory c.self.inside.known.items c.self.inside.trail c.self.inside.core c.reserve-2.new.self c.self.inside.rest c.reserve-3.new.self c.reserve-2.ensures.keeps c.reserve-3.ensures.keeps c.self.invariant.5)
+invariant_of-self-then-is_err-3 c = rw c.reserve.ensures.items (c.self.invariant.0, c.self.invariant.1, c.self.invariant.2, c.self.invariant.3, c.self.invariant.4, watched_roomier c.self.inside.memory c.self.inside.known.items c.self.inside.trail c.self.inside.core c.reserve-2.new.self c.self.inside.rest c.reserve-3.new.self c.reserve-2.ensures.keeps c.reserve-3.ensures.keeps c.self.invariant.5, c.self.invariant.6)
 
 pub invariant_of-self-in-Err : goal.invariant_of-self-in-Err
-invariant_of-self-in-Err c = rw (c.in-Err.ensures.err, c.reserve.ensures.items) (c.self.invariant.0, c.self.invariant.1, c.self.invariant.2, c.self.invariant.3, c.self.invariant.4, watched_roomier c.self.inside.memory c.self.inside.known.items c.self.inside.trail c.self.inside.core c.reserve-2.new.self c.self.inside.rest c.reserve-3.new.self c.reserve-2.ensures.keeps c.reserve-3.ensures.keeps c.self.invariant.5)
+invariant_of-self-in-Err c = rw (c.in-Err.ensures.err, c.reserve.ensures.items) (c.self.invariant.0, c.self.invariant.1, c.self.invariant.2, c.self.invariant.3, c.self.invariant.4, watched_roomier c.self.inside.memory c.self.inside.known.items c.self.inside.trail c.self.inside.core c.reserve-2.new.self c.self.inside.rest c.reserve-3.new.self c.reserve-2.ensures.keeps c.reserve-3.ensures.keeps c.self.invariant.5, c.self.invariant.6)

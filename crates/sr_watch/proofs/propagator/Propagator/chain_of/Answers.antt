@@ -10,7 +10,7 @@ use Rattle.sr_watch.proofs.propagator.Propagator.chain_of.Goals.{in-Err, in-Ok}
 pub collect-requires-clause-ends : goal.collect-requires-clause-ends
 collect-requires-clause-ends g c =
     let s : State = c.args.self.now in
-    let pair : has_pair (assumed c.args.self.now) ≡ false = subst (λ (x : State). has_pair (assumed x) ≡ false) c.self.view_is (sym c.assumed_pair.ensures ∙ c.if-assumed_pair.false) in
+    let pair : has_pair (assumed c.args.self.now) ≡ false = subst (λ (x : State). has_pair (assumed x) ≡ false) c.self.view_is (sym c.has_assumed_pair.ensures ∙ c.if-has_assumed_pair.false) in
     let within : c.first_clash-end.result ≤ length c.args.self.now.lits = subst (λ (x : State). c.first_clash-end.result ≤ length x.lits) c.self.view_is c.first_clash-end.ensures.within in
     let clear : NoClash c.args.self.now.lits c.args.self.now.reasons c.first_clash-end.result = subst (λ (x : State). NoClash x.lits x.reasons c.first_clash-end.result) c.self.view_is c.first_clash-end.ensures.before in
     let clash : c.first_clash-end.result < length c.args.self.now.lits → IsClash c.args.self.now.lits c.args.self.now.reasons c.first_clash-end.result =

@@ -1,51 +1,50 @@
-use Rattle.std.proofs.Common.{◌≡◌, ◌≢◌, ◌<◌, ◌≤◌, ℕ, None, ◌∙◌, length, subst, sym, ap, arith, get_or}
-use Rattle.std.proofs.lemmas.List.{get_or-take, length-take}
+use Rattle.std.proofs.Common.{◌≡◌, ◌≢◌, ◌<◌, ℕ, None, ◌∙◌, length, subst, sym, ap, get_or}
 use Rattle.sr_arena.specs.Cells.{IsHeld}
 use Rattle.sr_watch.specs.State.{State, IsAttached, held_cells}
 use Rattle.sr_watch.specs.Changes.{IsDetached}
-use Rattle.sr_watch.specs.Inside.{IsKept}
-use Rattle.sr_watch.specs.Marks.{joined}
-use Rattle.sr_watch.specs.Trail.{Entries, first_entries}
-use Rattle.sr_watch.specs.Resting.{AreWatched}
+use Rattle.sr_watch.specs.declared.propagator.Propagator.TheInside.{Inside}
+use Rattle.sr_watch.specs.Inside.{IsKept, state_of}
+use Rattle.sr_watch.specs.Marks.{AreReady, joined}
 use Rattle.sr_watch.proofs.Visits.{distinct_cells}
-use Rattle.sr_watch.proofs.Keeping.{kept_cut, held_in, cells_are}
-use Rattle.sr_watch.proofs.Regrouping.{regrouped_parted, kept_regrouped, parted_once, watched_parted, detached_value}
+use Rattle.sr_watch.proofs.Derivations.{spares_turned}
+use Rattle.sr_watch.proofs.Replacing.{released_kept, released_free, released_vars, released_value}
+use Rattle.sr_watch.proofs.Keeping.{held_in, cells_are}
+use Rattle.sr_watch.proofs.Regrouping.{IsRegrouped, regrouped_parted, kept_regrouped, parted_once, watched_parted}
 use Rattle.sr_watch.proofs.propagator.Propagator.detach.Goals as goal
+
+held_here : (p : Inside) (s : State) (at : ℕ) → IsKept p.trail.vars p.memory p.known.items p.trail.lits p.trail.reasons → state_of p.trail.vars p.memory p.trail.lits p.trail.reasons ≡ s → IsAttached s at → IsHeld p.memory at
+held_here p s at k is h = held_in p.trail.vars p.memory p.known.items p.trail.lits p.trail.reasons at k (subst (λ (x : State). IsAttached x at) (sym is) h)
+
+pub release-requires-clause-held : goal.release-requires-clause-held
+release-requires-clause-held c = held_here c.self.inside c.args.self.now c.args.at c.self.invariant.0 c.self.view_is c.requires
 
 pub invariant_of-self : goal.invariant_of-self
 invariant_of-self c =
-    let k = c.self.invariant.0 in
-    let place : ℕ = c.place_of-place.result in
-    let e : Entries = first_entries c.self.inside.trail place in
-    let held : IsHeld c.self.inside.memory c.args.at = held_in c.self.inside.trail.vars c.self.inside.memory c.self.inside.known.items c.self.inside.trail.lits c.self.inside.trail.reasons c.args.at k (subst (λ (s : State). IsAttached s c.args.at) (sym c.self.view_is) c.requires) in
-    let le : place ≤ length c.self.inside.trail.lits = omega (arith, c.place_of-place.ensures.within, ap length c.reasons.ensures.value, c.self.invariant.0.sound.sizes) in
-    let cut : IsKept c.self.inside.trail.vars c.self.inside.memory c.self.inside.known.items e.lits e.reasons = kept_cut c.self.inside.trail.vars c.self.inside.memory c.self.inside.known.items c.self.inside.trail.lits c.self.inside.trail.reasons place le k in
-    let free : (i : ℕ) → i < length e.lits → get_or e.reasons i 0 ≢ c.args.at =
-    (λ i lt. let below : i < place = omega (arith, lt, length-take place c.self.inside.trail.lits) in
-    rw (get_or-take place c.self.inside.trail.reasons i 0 below) (subst (λ rs. get_or rs i 0 ≢ c.args.at) c.reasons.ensures.value (c.place_of-place.ensures.before i below))) in
-    let y : AreWatched c.set_part.new.memory c.self.inside.known.items c.cut.new.trail c.forget.new.watches c.forget-2.new.watches =
-    watched_parted c.self.inside.memory c.set_part.new.memory c.self.inside.known.items c.cut.new.trail c.cut.new.core c.forget.new.watches c.cut.new.rest c.forget-2.new.watches c.args.at held c.set_part.ensures.parted
-    (record { rest = c.forget.ensures.rest; here = c.forget.ensures.here; fewer = c.forget.ensures.fewer; others = c.forget.ensures.others })
-    (record { rest = c.forget-2.ensures.rest; here = c.forget-2.ensures.here; fewer = c.forget-2.ensures.fewer; others = c.forget-2.ensures.others })
-    (c.cut.ensures.watched c.self.inside.memory c.self.inside.known.items c.self.invariant.5) in (
-      rw c.cut.ensures.value (kept_regrouped c.self.inside.memory c.set_part.new.memory c.self.inside.known.items e c.args.at (regrouped_parted c.self.inside.memory c.set_part.new.memory c.args.at None c.set_part.ensures.parted) held
-          (parted_once c.self.inside.memory c.set_part.new.memory c.args.at None c.set_part.ensures.parted (distinct_cells c.self.inside.memory c.self.inside.trail k.sound)) (λ i lt q. absurd (free i lt q)) cut),
+    let held : IsHeld c.self.inside.memory c.args.at = held_here c.self.inside c.args.self.now c.args.at c.self.invariant.0 c.self.view_is c.requires in
+    let kept : IsKept c.release.new.trail.vars c.self.inside.memory c.self.inside.known.items c.release.new.trail.lits c.release.new.trail.reasons =
+    released_kept c.self.inside.memory c.self.inside.known.items c.self.inside.trail c.release.new.trail c.args.at c.release.ensures.released c.self.invariant.0 in
+    let free : (i : ℕ) → i < length c.release.new.trail.lits → get_or c.release.new.trail.reasons i 0 ≢ c.args.at = released_free c.self.inside.memory c.self.inside.trail c.release.new.trail c.args.at c.self.invariant.0.sound c.release.ensures.released in
+    let vars : c.release.new.trail.vars ≡ c.self.inside.trail.vars = released_vars c.self.inside.memory c.self.inside.trail c.release.new.trail c.args.at c.release.ensures.released in
+    let g : IsRegrouped c.self.inside.memory c.set_part.new.memory c.args.at = regrouped_parted c.self.inside.memory c.set_part.new.memory c.args.at None c.set_part.ensures.parted in (
+      kept_regrouped c.self.inside.memory c.set_part.new.memory c.self.inside.known.items c.release.new.trail c.args.at g held
+          (parted_once c.self.inside.memory c.set_part.new.memory c.args.at None c.set_part.ensures.parted (distinct_cells c.self.inside.memory c.self.inside.trail c.self.invariant.0.sound)) (λ i lt q. absurd (free i lt q)) kept,
       c.self.invariant.1 ∙ sym c.set_part.ensures.parted.most,
       c.self.invariant.2,
       c.set_part.ensures.parted.used ∙ c.self.invariant.3 ∙ sym c.set_part.ensures.parted.cells,
-      rw c.cut.ensures.value c.self.invariant.4,
-      y,
+      subst (λ v. AreReady c.self.inside.needed.marks v) (sym vars) c.self.invariant.4,
+      watched_parted c.self.inside.memory c.set_part.new.memory c.self.inside.known.items c.release.new.trail c.release.new.core c.forget.new.watches c.release.new.rest c.forget-2.new.watches c.args.at held c.set_part.ensures.parted
+          (record { rest = c.forget.ensures.rest; here = c.forget.ensures.here; fewer = c.forget.ensures.fewer; others = c.forget.ensures.others })
+          (record { rest = c.forget-2.ensures.rest; here = c.forget-2.ensures.here; fewer = c.forget-2.ensures.fewer; others = c.forget-2.ensures.others })
+          (c.release.ensures.watched c.self.inside.known.items c.self.invariant.5),
+      spares_turned c.self.inside.memory c.set_part.new.memory c.self.inside.trail.vars c.release.new.trail.vars c.self.inside.spares g.held vars c.self.invariant.6,
     )
 
 pub returns-clause-value : goal.returns-clause-value
 returns-clause-value c =
-    let rs = c.reasons.ensures.value in
-    let v : IsDetached (joined c.self.inside.trail c.self.inside.memory) (joined (first_entries c.self.inside.trail c.place_of-place.result) c.set_part.new.memory) c.args.at c.place_of-place.result =
-    detached_value c.self.inside.memory c.set_part.new.memory c.self.inside.trail c.args.at c.place_of-place.result c.self.invariant.0.sound c.set_part.ensures.slots c.set_part.ensures.parted.most (omega (arith, c.place_of-place.ensures.within, ap length rs))
-    (λ i lt. subst (λ rs. get_or rs i 0 ≢ c.args.at) rs (c.place_of-place.ensures.before i lt)) (λ lt. subst (λ rs. get_or rs c.place_of-place.result 0 ≡ c.args.at) rs (c.place_of-place.ensures.here (omega (arith, lt, ap length rs)))) in
-    (c.place_of-place.result, rw c.cut.ensures.value (subst (λ (s : State). IsDetached s (joined (first_entries c.self.inside.trail c.place_of-place.result) c.set_part.new.memory) c.args.at c.place_of-place.result) c.self.view_is v))
+    let v = released_value c.self.inside.memory c.set_part.new.memory c.self.inside.trail c.release.new.trail c.args.at c.self.invariant.0.sound c.set_part.ensures.slots c.set_part.ensures.parted.most c.release.ensures.released in
+    subst (λ (s : State). (n : ℕ) × IsDetached s (joined c.release.new.trail c.set_part.new.memory) c.args.at n) c.self.view_is v
 
 pub returns-clause-cells : goal.returns-clause-cells
 returns-clause-cells c =
-    cells_are c.cut.new.trail.vars c.set_part.new.memory c.cut.new.trail.lits c.cut.new.trail.reasons ∙ c.set_part.ensures.parted.cells
+    cells_are c.release.new.trail.vars c.set_part.new.memory c.release.new.trail.lits c.release.new.trail.reasons ∙ c.set_part.ensures.parted.cells
     ∙ sym (cells_are c.self.inside.trail.vars c.self.inside.memory c.self.inside.trail.lits c.self.inside.trail.reasons) ∙ ap held_cells c.self.view_is

@@ -8,6 +8,7 @@ use Rattle.sr_watch.specs.Marks.{joined}
 use Rattle.sr_watch.specs.Resting.{AreWatched}
 use Rattle.sr_watch.proofs.Visits.{within_cells, distinct_cells}
 use Rattle.sr_watch.proofs.Attached.{free_core}
+use Rattle.sr_watch.proofs.Derivations.{spares_turned}
 use Rattle.sr_watch.proofs.Keeping.{cells_are, held_in}
 use Rattle.sr_watch.proofs.Regrouping.{IsRegrouped, regrouped_same, regrouped_on, regrouped_parted, regrouped_moved, kept_regrouped, attached_value, parted_within, parted_once, moved_once, watched_parked, is_marked}
 use Rattle.sr_watch.proofs.propagator.Propagator.make_core.Goals as goal
@@ -47,6 +48,7 @@ invariant_of-self c =
       c.attach_to.ensures.moved.used ∙ c.set_part.ensures.parted.used ∙ c.self.invariant.3 ∙ sym c.set_part.ensures.parted.cells ∙ sym c.attach_to.ensures.moved.cells,
       c.self.invariant.4,
       c.attach_to.ensures.watched c.self.inside.known.items (watched_parked c.self.inside.memory c.set_part.new.memory c.self.inside.known.items c.self.inside.trail c.self.inside.core c.self.inside.rest c.forget.new.watches c.args.at held flag c.set_part.ensures.parted (record { rest = c.forget.ensures.rest; here = c.forget.ensures.here; fewer = c.forget.ensures.fewer; others = c.forget.ensures.others }) c.self.invariant.5),
+      spares_turned c.self.inside.memory c.attach_to.new.memory c.self.inside.trail.vars c.self.inside.trail.vars c.self.inside.spares g.held refl c.self.invariant.6,
     )
 
 pub returns-clause-value : goal.returns-clause-value

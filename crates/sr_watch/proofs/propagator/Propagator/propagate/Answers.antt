@@ -4,6 +4,7 @@ use Rattle.sr_watch.specs.State.{State, held_cells}
 use Rattle.sr_watch.specs.Changes.{Derives}
 use Rattle.sr_watch.specs.Marks.{joined, AreReady}
 use Rattle.sr_watch.proofs.Answering.{self_means, still_means, conflict_means, least}
+use Rattle.sr_watch.proofs.Derivations.{spares_turned}
 use Rattle.sr_watch.proofs.Closes.{propagated_kept, propagated_derives, propagated_watched}
 use Rattle.sr_watch.proofs.Keeping.{cells_are}
 use Rattle.sr_watch.proofs.propagator.Propagator.propagate.Goals as goal
@@ -22,8 +23,9 @@ invariant_of-self g c =
       c.self.invariant.1 ∙ sym x.most,
       c.self.invariant.2,
       x.used ∙ c.self.invariant.3 ∙ sym x.cells,
-      subst (λ v. AreReady c.self.inside.needed v) (sym x.grown.vars) c.self.invariant.4,
+      subst (λ v. AreReady c.self.inside.needed.marks v) (sym x.grown.vars) c.self.invariant.4,
       propagated_watched c.self.inside.memory c.close_part.new.memory c.self.inside.known.items c.self.inside.trail c.close_part.new.trail c.self.inside.core c.close_part.new.core c.self.inside.rest c.close_part.new.rest x c.close_part.ensures.core_shape c.close_part.ensures.rest_shape c.close_part.ensures.core_rests c.close_part.ensures.rest_rests c.self.invariant.5,
+      spares_turned c.self.inside.memory c.close_part.new.memory c.self.inside.trail.vars c.close_part.new.trail.vars c.self.inside.spares (λ r. (x.each r).held) x.grown.vars c.self.invariant.6,
     )
 
 pub returns-clause-derives : goal.returns-clause-derives

@@ -11,4 +11,5 @@ invariant_of-self c = (
   c.self.invariant.3,
   rw c.cut.ensures.value c.self.invariant.4,
   c.cut.ensures.watched c.self.inside.memory c.self.inside.known.items c.self.invariant.5,
+  rw c.cut.ensures.value c.self.invariant.6,
 )

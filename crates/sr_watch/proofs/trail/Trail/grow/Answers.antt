@@ -20,4 +20,6 @@ invariant_of-self-2 c =
       one,
       two,
       c.self.invariant.4,
+      c.self.invariant.5,
+      c.self.invariant.6,
     )

@@ -1,10 +1,11 @@
-use Rattle.std.proofs.Common.{◌≡◌, ◌≤◌, ◌<◌, ◌+◌, ◌-◌, ◌∙◌, sym, subst, arith, length, ◌==◌, get_or, set, cond, true, false, take}
+use Rattle.std.proofs.Common.{◌≡◌, ◌≤◌, ◌<◌, ◌+◌, ◌-◌, ◌∙◌, sym, ap, subst, min, arith, length, ◌==◌, get_or, set, cond, true, false, take}
 use Rattle.std.proofs.lemmas.List.{get_or_default}
 use Rattle.sr_base.specs.Literal.{has, variable, literal_code}
 use Rattle.std.specs.Prelude.{nat_le}
 use Rattle.std.proofs.lemmas.Bool.Decides.{nat_tests}
 use Rattle.sr_model.proofs.Soundness.{by_test}
-use Rattle.sr_watch.specs.Trail.{Entries, IsClashAt}
+use Rattle.sr_watch.specs.Trail.{Entries, IsClashAt, IsAssumedPairAt, root_length}
+use Rattle.sr_watch.proofs.Firsts.{assumed_pair_pop, root_take}
 use Rattle.sr_watch.proofs.Tables.{few, entries_cut, tables_pop, code_within, in_list, clash_pop}
 use Rattle.sr_watch.proofs.trail.Trail.pop.Goals as goal
 
@@ -48,8 +49,14 @@ invariant_of-self c =
     subst (λ m. c.mark_if.new.marks.items ≡ cond (m == 0) (set c.self.inside.marks.items (literal_code c.index-l.result.now) false) c.self.inside.marks.items) reason
     (subst (λ k. c.mark_if.new.marks.items ≡ cond (c.index.result.now == 0) (set c.self.inside.marks.items k false) c.self.inside.marks.items) c.code-code.ensures.value c.mark_if.ensures) in
     let w = clash_pop c.self.inside.lits.items (c.len-last.result - 1) c.self.inside.clash (omega (arith, n)) c.self.invariant.4 in
-    let clash : IsClashAt (take (c.len-last.result - 1) c.self.inside.lits.items) c.clash_before-self-inside.result = by_test (nat_le c.self.inside.clash (c.len-last.result - 1))
-    (λ t. let le : c.self.inside.clash ≤ c.len-last.result - 1 = grind (arith, nat_tests) in subst (λ m. IsClashAt (take (c.len-last.result - 1) c.self.inside.lits.items) m) (sym (c.clash_before-self-inside.ensures.less le)) (w.0 le))
-    (λ t. let lt : c.len-last.result - 1 < c.self.inside.clash = grind (arith, nat_tests) in subst (λ m. IsClashAt (take (c.len-last.result - 1) c.self.inside.lits.items) m) (sym (c.clash_before-self-inside.ensures.none lt)) (w.1 lt)) in
+    let clash : IsClashAt (take (c.len-last.result - 1) c.self.inside.lits.items) c.first_within-self-inside.result = by_test (nat_le c.self.inside.clash (c.len-last.result - 1))
+    (λ t. let le : c.self.inside.clash ≤ c.len-last.result - 1 = grind (arith, nat_tests) in subst (λ m. IsClashAt (take (c.len-last.result - 1) c.self.inside.lits.items) m) (sym (c.first_within-self-inside.ensures.less le)) (w.0 le))
+    (λ t. let lt : c.len-last.result - 1 < c.self.inside.clash = grind (arith, nat_tests) in subst (λ m. IsClashAt (take (c.len-last.result - 1) c.self.inside.lits.items) m) (sym (c.first_within-self-inside.ensures.none lt)) (w.1 lt)) in
+    let v = assumed_pair_pop c.self.inside.lits.items c.self.inside.reasons.items (c.len-last.result - 1) c.self.inside.pair (omega (arith, n)) c.self.invariant.5 in
+    let pair : IsAssumedPairAt (take (c.len-last.result - 1) c.self.inside.lits.items) (take (c.len-last.result - 1) c.self.inside.reasons.items) c.first_within-self-inside-2.result = by_test (nat_le c.self.inside.pair (c.len-last.result - 1))
+    (λ t. let le : c.self.inside.pair ≤ c.len-last.result - 1 = grind (arith, nat_tests) in subst (λ m. IsAssumedPairAt (take (c.len-last.result - 1) c.self.inside.lits.items) (take (c.len-last.result - 1) c.self.inside.reasons.items) m) (sym (c.first_within-self-inside-2.ensures.less le)) (v.0 le))
+    (λ t. let lt : c.len-last.result - 1 < c.self.inside.pair = grind (arith, nat_tests) in subst (λ m. IsAssumedPairAt (take (c.len-last.result - 1) c.self.inside.lits.items) (take (c.len-last.result - 1) c.self.inside.reasons.items) m) (sym (c.first_within-self-inside-2.ensures.none lt)) (v.1 lt)) in
+    let root : c.root_within-self-inside.result ≡ root_length (take (c.len-last.result - 1) c.self.inside.reasons.items) =
+    c.root_within-self-inside.ensures ∙ ap (λ m. min m (c.len-last.result - 1)) c.self.invariant.6 ∙ sym (root_take (c.len-last.result - 1) c.self.inside.reasons.items) in
     rw (c.truncate.ensures.items, c.truncate-2.ensures.items, first, marks, c.truncate.ensures.capacity, c.truncate-2.ensures.capacity)
-    (entries_cut (record { vars = c.self.inside.vars; lits = c.self.inside.lits.items; reasons = c.self.inside.reasons.items }) (c.len-last.result - 1) (omega (arith, n)) c.self.invariant.0, x, c.self.invariant.2, c.self.invariant.3, clash)
+    (entries_cut (record { vars = c.self.inside.vars; lits = c.self.inside.lits.items; reasons = c.self.inside.reasons.items }) (c.len-last.result - 1) (omega (arith, n)) c.self.invariant.0, x, c.self.invariant.2, c.self.invariant.3, clash, pair, root)

@@ -1,6 +1,6 @@
 use Rattle.std.proofs.Common.{true, false, length}
 use Rattle.sr_watch.proofs.Attached.{room_kept}
-use Rattle.sr_watch.proofs.propagator.cut.Goals as goal
+use Rattle.sr_watch.proofs.cutting.cut.Goals as goal
 
 pub returns-clause-watched : goal.returns-clause-watched
 returns-clause-watched c m known y = rw c.cut.ensures (record {

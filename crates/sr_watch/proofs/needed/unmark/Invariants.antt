@@ -1,10 +1,10 @@
 use Rattle.std.proofs.Common.{◌≤◌, length, drop}
 use Rattle.sr_watch.specs.Marks.{joined, AreMarkedAtMost}
 use Rattle.sr_watch.specs.Trail.{table_size}
-use Rattle.sr_watch.proofs.chains.unmark.Given as goal
+use Rattle.sr_watch.proofs.needed.unmark.Given as goal
 
 abbrev pub invariant-loop-at : goal.invariant-loop-at
 invariant-loop-at g l = record {
-  marked : AreMarkedAtMost (joined l.trail l.memory) (drop l.at-index l.chain) l.needed;
-  room : table_size l.trail.vars ≤ length l.needed;
+  marked : AreMarkedAtMost (joined l.trail l.memory) (drop l.at-index l.chain) l.marks;
+  room : table_size l.trail.vars ≤ length l.marks;
 }
