@@ -143,7 +143,7 @@ not_alive_next st n e = by_test (has_clause (alive_in st) n) (λ t. let lt = cit
 copies_of : (old new : LoadedState) (c d : Copied) (id : ℕ) → TookBack old new id → AliveOrBack old → AliveOrBack new → AreCopies old c → d.refs ≡ c.refs
     → ((n : ℕ) (x : List Literal) → entry_of c.refs n ≢ 0 → clause_of (all_in old) n ≡ Some x → IsClauseIn (slot_in d.slots (entry_of c.refs n)) n x)
     → ((n : ℕ) → 0 < n → n ≢ id → entry_of c.refs n ≢ 0 → (slot_in d.slots (entry_of c.refs n)).part ≡ (slot_in c.slots (entry_of c.refs n)).part)
-    → (entry_of c.refs id ≢ 0 → (slot_in d.slots (entry_of c.refs id)).part ≡ None) → AreLed d → AreCopies new d
+    → (entry_of c.refs id ≢ 0 → (slot_in d.slots (entry_of c.refs id)).part ≡ None) → AreLed d.slots d.refs → AreCopies new d
 copies_of old new c d id t a b k e linked others here led =
     let s = back_some old new id t in let x = next_back old new id t in record {
       cited = λ n up some. ap (holds_number n) s.0 ∙ k.cited n up (λ z. some (ap (λ r. entry_of r n) e ∙ z));
@@ -236,13 +236,13 @@ keep_same c d e n up some z = some (sym (e.entries n) ∙ z)
 
 pub copies_reordered : (st : LoadedState) (c d : Copied) → d.refs ≡ c.refs → AreReordered c.slots d.slots → AreCopies st c → AreCopies st d
 copies_reordered st c d e o k =
-    let there : AreCopies st (record { slots = d.slots; refs = c.refs }) = record {
+    let there : AreCopies st (record { slots = d.slots; refs = c.refs; assumed = d.assumed }) = record {
       cited = k.cited;
       linked = λ n x some h. let i = k.linked n x some h in let r = o.each (entry_of c.refs n) in record { held = r.held ∙ i.held; number = r.number ∙ i.number; set = λ l. r.set l ∙ i.set l; distinct = i.distinct };
       parts = λ n up some. (o.each (entry_of c.refs n)).part ∙ k.parts n up some;
       led = led_reordered c.slots d.slots c.refs o k.led;
     } in
-    subst (λ r. AreCopies st (record { slots = d.slots; refs = r })) (sym e) there
+    subst (λ r. AreCopies st (record { slots = d.slots; refs = r; assumed = d.assumed })) (sym e) there
 
 -- one citation more was looked at
 pub covers_next : (st : LoadedState) (c d : Copied) (k id : ℕ) → k < length st.cited → id ≡ get_or st.cited k id → ((n : ℕ) → holds_number n st.cited ≡ true → 0 < n) → CoversFirst st c k → KeepCopies c d → HasCopy st d id → CoversFirst st d (k + 1)
@@ -332,6 +332,13 @@ no_copy b n e f = by_eq n 0 (λ z. z) (λ z. let bad : true ≡ false = sym (e �
 
 pub dropped_refs : (c : Copied) (n : ℕ) → (dropped_copy c n).refs ≡ c.refs
 dropped_refs c n = by_test (entry_of c.refs n == 0) (λ t. rw t refl) (λ t. rw t refl)
+
+pub dropped_assumed : (c : Copied) (n : ℕ) → (dropped_copy c n).assumed ≡ c.assumed
+dropped_assumed c n = by_test (entry_of c.refs n == 0) (λ t. rw t refl) (λ t. rw t refl)
+
+-- fewer literals are assumed in the copies
+pub copies_undone : (st : LoadedState) (c : Copied) (given : List Literal) → AreCopies st c → AreCopies st (record c { assumed = given })
+copies_undone st c given k = copies_kept st c (record c { assumed = given }) (record { slots = refl; entries = λ n. refl }) k
 
 pub covers_kept_up : (st : LoadedState) (c d : Copied) (k : ℕ) → ((n : ℕ) → holds_number n st.cited ≡ true → 0 < n) → KeepCopies c d → CoversFirst st c k → CoversFirst st d k
 covers_kept_up st c d k low keep v n h alive = keep n (low n (in_take k st.cited n h)) (v n h alive)

@@ -12,14 +12,14 @@ use Rattle.sr_model.specs.Dimacs.{Formula}
 use Rattle.sr_model.proofs.Soundness.{by_test}
 use Rattle.sr_watch.specs.declared.parts.Part.TheVariants.{Core, All}
 use Rattle.sr_watch.specs.Parts.{counts}
-use Rattle.sr_watch.specs.State.{State, slot_in, slot_at, lits_at, held_cells, weights, assumed, IsHeld, IsAttached}
-use Rattle.sr_watch.specs.Changes.{with_part, with_assumed, cut_to, AreReordered, IsAttachedTo, IsDetached}
+use Rattle.sr_watch.specs.State.{State, slot_in, slot_at, lits_at, held_cells, weights, IsHeld, IsAttached}
+use Rattle.sr_watch.specs.Changes.{with_part, AreReordered, IsAttachedTo, IsDetached}
 use Rattle.sr_trimming.specs.Reordered.{IsReordered}
 use Rattle.sr_trimming.specs.Loading.{Done, joined, removed, passed, Standing, at_start, after_done, after_all}
 use Rattle.sr_trimming.specs.From.{all_loaded, Place, place_of, LemmasHavePivots}
 use Rattle.sr_load.specs.declared.records.Event.{Event}
 use Rattle.sr_load.specs.declared.records.Told.{Told}
-use Rattle.sr_load.specs.Loaded.{LoadedState, all_lines, all_in, standing_in, next_of, alive_in, citing, assuming}
+use Rattle.sr_load.specs.Loaded.{LoadedState, all_lines, all_in, standing_in, next_of, alive_in, citing}
 use Rattle.sr_load.specs.Taking.{TellsNumber, TookLine}
 use Rattle.sr_load.specs.Numbers.{entry_of, has_clause}
 use Rattle.sr_load.specs.Records.{done_of, done_in, loaded_at, AreTold, RemoveAlive}
@@ -27,7 +27,7 @@ use Rattle.sr_load.specs.Tied.{part_of, IsTied, AreAssumed, AreFlagged, Keeps}
 use Rattle.sr_load.proofs.Numbering.{by_eq, is_self, found_last, found_right, without_other, without_self, some_clause, no_clause_of, after_append, alive_below, in_all, next_row, lemma_clauses}
 use Rattle.sr_load.proofs.Lines.{IsToldOf, told_at, told_length, last_stands, last_back, next_rises, told_nonempty, remove_split}
 use Rattle.sr_load.proofs.Tying.{IsTotal, tied_part, tied_reordered, flagged_more, holds_old, holds_new}
-use Rattle.sr_load.proofs.Marking.{over_alike, entries_alike, entries_assume, entries_undo, entries_detached, no_marks}
+use Rattle.sr_load.proofs.Marking.{over_alike, entries_alike, entries_detached, no_marks}
 
 -- each number has a clause
 pub total : (st : LoadedState) (refs : List ℕ) → length refs + 1 ≡ next_of st → IsTotal (all_in st) refs
@@ -119,20 +119,6 @@ keeps_cite st s s' refs told flags marks reached id at k h is a cells =
     (flagged_more (alive_in st) (standing_in st).next st.cited flags id k.flagged r.0 (omega (arith, r.1, k.flags_size)) h)
     k.removed cells k.next (length-set flags (id - 1) true)
 
--- a literal is assumed, where there may be room for more variables
-pub keeps_assume : (st : LoadedState) (s t s' : State) (refs : List ℕ) (told : List Told) (flags : List Bool) (marks marks' : List ℕ) (reached : ℕ) (l : Literal) → Keeps st s refs told flags marks reached → t ≡ record s { vars = t.vars }
-    → s' ≡ with_assumed t l → marks' ≡ marks ++ length t.lits ∷ [] → Keeps (assuming st l) s' refs told flags marks' reached
-keeps_assume st s t s' refs told flags marks marks' reached l k grown e m =
-    let lits : t.lits ≡ s.lits = ap (λ (x : State). x.lits) grown in
-    let reasons : t.reasons ≡ s.reasons = ap (λ (x : State). x.reasons) grown in
-    let slots : t.slots ≡ s.slots = ap (λ (x : State). x.slots) grown in
-    let kept : s'.slots ≡ t.slots = ap (λ (x : State). x.slots) e ∙ by_test (has l (assumed t)) (λ y. rw y refl) (λ y. rw y refl) in
-    let entries : AreAssumed t.lits t.reasons st.assumed marks = subst (λ x. AreAssumed x t.reasons st.assumed marks) (sym lits) (subst (λ x. AreAssumed s.lits x st.assumed marks) (sym reasons) k.entries) in
-    keeps_moved st st.standing st.undone st.cited (st.assumed ++ l ∷ []) s s' refs told flags flags marks marks' reached reached k refl
-    (subst (λ x. IsTied (all_in st) (alive_in st) st.cited x refs) (sym (kept ∙ slots)) k.tied)
-    (subst (λ x. AreAssumed s'.lits s'.reasons (st.assumed ++ l ∷ []) x) (sym m) (entries_assume t s' st.assumed marks l e entries))
-    k.flagged k.removed (ap weights (kept ∙ slots)) k.next refl
-
 -- room for more variables alone
 pub keeps_grown : (st : LoadedState) (s t : State) (refs : List ℕ) (told : List Told) (flags : List Bool) (marks : List ℕ) (reached : ℕ) → Keeps st s refs told flags marks reached → t ≡ record s { vars = t.vars } → Keeps st t refs told flags marks reached
 keeps_grown st s t refs told flags marks reached k grown =
@@ -144,18 +130,12 @@ keeps_grown st s t refs told flags marks reached k grown =
     (subst (λ x. AreAssumed x t.reasons st.assumed marks) (sym lits) (subst (λ x. AreAssumed s.lits x st.assumed marks) (sym reasons) k.entries))
     k.flagged k.removed (ap weights slots) k.next refl
 
--- the first assumed literals alone
-pub keeps_undo : (st : LoadedState) (s s' : State) (refs : List ℕ) (told : List Told) (flags : List Bool) (marks : List ℕ) (reached m entries : ℕ) → Keeps st s refs told flags marks reached → m < length marks
-    → entries ≡ get_or marks m entries → s' ≡ cut_to s entries → Keeps (record st { assumed = take m st.assumed }) s' refs told flags (take m marks) reached
-keeps_undo st s s' refs told flags marks reached m entries k lt is e =
-    let at : entries ≡ get_or marks m 0 = get_or_read marks m entries lt is 0 in
-    let lits : s'.lits ≡ take (get_or marks m 0) s.lits = ap (λ (x : State). x.lits) e ∙ ap (λ n. take n s.lits) at in
-    let reasons : s'.reasons ≡ take (get_or marks m 0) s.reasons = ap (λ (x : State). x.reasons) e ∙ ap (λ n. take n s.reasons) at in
-    let slots : s'.slots ≡ s.slots = ap (λ (x : State). x.slots) e in
-    keeps_moved st st.standing st.undone st.cited (take m st.assumed) s s' refs told flags flags marks (take m marks) reached reached k refl
-    (subst (λ x. IsTied (all_in st) (alive_in st) st.cited x refs) (sym slots) k.tied)
-    (subst (λ x. AreAssumed x s'.reasons (take m st.assumed) (take m marks)) (sym lits) (subst (λ x. AreAssumed (take (get_or marks m 0) s.lits) x (take m st.assumed) (take m marks)) (sym reasons) (entries_undo s.lits s.reasons st.assumed marks m (omega (arith, lt, k.entries.count)) k.entries)))
-    k.flagged k.removed (ap weights slots) k.next refl
+-- other literals are assumed
+pub keeps_levels : (st : LoadedState) (given : List Literal) (s s' : State) (refs : List ℕ) (told : List Told) (flags : List Bool) (marks marks' : List ℕ) (reached : ℕ) → Keeps st s refs told flags marks reached → AreReordered s.slots s'.slots → held_cells s' ≡ held_cells s
+    → AreAssumed s'.lits s'.reasons given marks' → Keeps (record st { assumed = given }) s' refs told flags marks' reached
+keeps_levels st given s s' refs told flags marks marks' reached k slots cells entries =
+    keeps_moved st st.standing st.undone st.cited given s s' refs told flags flags marks marks' reached reached k refl
+    (tied_reordered (all_in st) (alive_in st) st.cited s.slots s'.slots refs slots k.tied) entries k.flagged k.removed cells k.next refl
 
 -- a line is taken back
 back_lines : (st : LoadedState) (ds : List Done) (d : Done) → st.standing ≡ ds ++ d ∷ [] → ds ++ d ∷ st.undone ≡ all_lines st

@@ -1,5 +1,5 @@
 -- Copies of the cited clauses in a propagator of their own.
-use Rattle.std.specs.Prelude.{ℕ, ◌<◌, ◌≡◌, ◌≢◌, ◌==◌, Bool, true, false, cond, List, [], ◌++◌, length, take, Some, None}
+use Rattle.std.specs.Prelude.{ℕ, ◌<◌, ◌≡◌, ◌≢◌, ◌==◌, Bool, true, false, cond, List, length, take, Some, None}
 use Rattle.sr_base.specs.Literal.{Literal, SameSet}
 use Rattle.sr_model.specs.Assignment.{holds_number}
 use Rattle.sr_model.specs.Chain.{clauses, clause_of}
@@ -15,21 +15,27 @@ use Rattle.sr_load.specs.Numbers.{entry_of, has_clause}
 use Rattle.sr_load.specs.Tied.{IsClauseIn, part_of, AreAssumed}
 use Rattle.sr_load.specs.Finding.{Finds}
 
--- what contracts see of copies: the clauses under references, and the reference of each number, 0 where it has no copy
+-- what contracts see of copies: the clauses under references, the reference of each number, 0 where it has no copy, and the
+-- literals that are assumed
 pub record Copied : Type 0 where
   pub slots : List Slot
   pub refs : List ℕ
+  pub assumed : List Literal
 
 -- a held copy is that to which its number leads
-pub record AreLed (c : Copied) : Type 0 where
-  pub some : (r : ℕ) → (slot_in c.slots r).held ≡ true → 0 < r
-  pub low : (r : ℕ) → (slot_in c.slots r).held ≡ true → 0 < (slot_in c.slots r).number
-  pub leads : (r : ℕ) → (slot_in c.slots r).held ≡ true → entry_of c.refs (slot_in c.slots r).number ≡ r
-  pub held : (n : ℕ) → 0 < n → entry_of c.refs n ≢ 0 → (slot_in c.slots (entry_of c.refs n)).held ≡ true
+pub record AreLed (slots : List Slot) (refs : List ℕ) : Type 0 where
+  pub some : (r : ℕ) → (slot_in slots r).held ≡ true → 0 < r
+  pub low : (r : ℕ) → (slot_in slots r).held ≡ true → 0 < (slot_in slots r).number
+  pub leads : (r : ℕ) → (slot_in slots r).held ≡ true → entry_of refs (slot_in slots r).number ≡ r
+  pub held : (n : ℕ) → 0 < n → entry_of refs n ≢ 0 → (slot_in slots (entry_of refs n)).held ≡ true
 
-pub record KeepsCopies (s : State) (refs : List ℕ) : Type 0 where
-  pub led : AreLed (record { slots = s.slots; refs = refs })
-  pub none_assumed : AreAssumed s.lits s.reasons [] []
+pub record KeepsCopies (s : State) (refs : List ℕ) (given : List Literal) (marks : List ℕ) : Type 0 where
+  pub led : AreLed s.slots refs
+  pub entries : AreAssumed s.lits s.reasons given marks
+
+-- literals are the first ones of others
+abbrev pub Begins : List Literal → List Literal → Type 0
+Begins some all = take (length some) all ≡ some
 
 -- an attached copy of a clause
 abbrev pub copy_of : List Literal → ℕ → Slot
@@ -66,21 +72,12 @@ pub record IsFound (slots : List Slot) (given : List Literal) (b : Bool) (ns : L
   pub sound : IsSound state
   pub finds : Finds state All b ns
 
--- the literals are assumed behind the entries
-pub record AssumesAll (old new : State) (ls : List Literal) : Type 0 where
-  pub slots : new.slots ≡ old.slots
-  pub vars : new.vars ≡ old.vars
-  pub sizes : length new.reasons ≡ length new.lits
-  pub lits : take (length old.lits) new.lits ≡ old.lits
-  pub reasons : take (length old.reasons) new.reasons ≡ old.reasons
-  pub set : SameSet (assumed new) (assumed old ++ ls)
-
 -- each copy is that of a cited clause, and attached where the clause is alive
 pub record AreCopies (st : LoadedState) (c : Copied) : Type 0 where
   pub cited : (n : ℕ) → 0 < n → entry_of c.refs n ≢ 0 → holds_number n st.cited ≡ true
   pub linked : (n : ℕ) (d : List Literal) → entry_of c.refs n ≢ 0 → clause_of (all_in st) n ≡ Some d → IsClauseIn (slot_in c.slots (entry_of c.refs n)) n d
   pub parts : (n : ℕ) → 0 < n → entry_of c.refs n ≢ 0 → (slot_in c.slots (entry_of c.refs n)).part ≡ part_of (has_clause (alive_in st) n) false
-  pub led : AreLed c
+  pub led : AreLed c.slots c.refs
 
 -- of the first citations each clause that is alive has a copy
 abbrev pub CoversFirst : LoadedState → Copied → ℕ → Type 0

@@ -8,6 +8,7 @@ mod deleting;
 mod finding;
 mod hashing;
 mod holding;
+mod levels;
 mod loaded;
 mod loader;
 mod progress;

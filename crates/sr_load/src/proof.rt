@@ -4,7 +4,7 @@ ghost use Rattle.sr_model.specs.Assignment.{holds_number};
 ghost use Rattle.sr_load.specs.Loaded.{LoadedState, all_lines};
 ghost use Rattle.sr_load.specs.Loading.{lemmas_in};
 ghost use Rattle.sr_load.specs.Finding.{IsNumber, IsNextAlive};
-ghost use Rattle.sr_load.specs.Copies.{AreCopies, CoversFirst, KeepCopies, HasCopy, CitedTests};
+ghost use Rattle.sr_load.specs.Copies.{AreCopies, Begins, CoversFirst, KeepCopies, HasCopy, CitedTests};
 
 use crate::copies::Copies;
 use crate::loaded::Loaded;
@@ -18,7 +18,8 @@ use std::marker::Model;
 /// A loaded proof.
 ///
 /// Whether the cited clauses refute is asked in the one propagator that has all alive clauses, which closes those of the core
-/// first. Only where they conflict by entries that other clauses derived, the copies of the cited clauses are asked.
+/// first. Only where they conflict by entries that other clauses derived, the copies of the cited clauses are asked. What is
+/// assumed in the copies are the first literals of those that are assumed, as many as stand since they were last asked.
 #[derive(Drop)]
 pub struct LoadedProof {
     timeline: Timeline,
@@ -32,13 +33,14 @@ pub struct LoadedProof {
 impl Model for LoadedProof {
     ghost use Rattle.std.specs.Prelude.{◌≤◌, length};
     ghost use Rattle.sr_load.specs.Loaded.{LoadedState};
-    ghost use Rattle.sr_load.specs.Copies.{AreCopies, CoversFirst};
+    ghost use Rattle.sr_load.specs.Copies.{AreCopies, Begins, CoversFirst};
 
     ghost Value = { LoadedState };
 
     ghost view = { λ p. p.timeline };
 
-    ghost invariant = { λ p. AreCopies p.timeline p.copies × CoversFirst p.timeline p.copies p.copied × (p.copied ≤ length p.timeline.cited) };
+    ghost invariant = { λ p. AreCopies p.timeline p.copies × CoversFirst p.timeline p.copies p.copied × (p.copied ≤ length p.timeline.cited)
+        × Begins p.copies.assumed p.timeline.assumed };
 }
 
 impl Loaded for LoadedProof {
@@ -93,6 +95,7 @@ impl Loaded for LoadedProof {
 
     fn undo_to(&mut self, mark: usize) {
         self.timeline.undo_to(mark);
+        self.copies.undo_to(mark);
     }
 
     fn refute(&mut self, chain: &mut IdList) -> Result<bool, NoMemory> {
@@ -185,9 +188,11 @@ fn ask_copies(
     requires copies { AreCopies timeline.now copies.old }
     requires covers { CoversFirst timeline.now copies.old copied.old }
     requires within { copied.old ≤ length timeline.now.cited }
+    requires begins { Begins copies.old.assumed timeline.now.assumed }
     ensures copies { AreCopies timeline.now copies.new }
     ensures covers { CoversFirst timeline.now copies.new copied.new }
     ensures within { copied.new ≤ length timeline.now.cited }
+    ensures begins { Begins copies.new.assumed timeline.now.assumed }
     ensures ok { IfOk result (λ b. CitedTests timeline.now b chain.new) }
 {
     copy_cited(timeline, copies, copied)?;
@@ -199,9 +204,11 @@ fn copy_cited(timeline: &Timeline, copies: &mut Copies, copied: &mut usize) -> R
     requires copies { AreCopies timeline.now copies.old }
     requires covers { CoversFirst timeline.now copies.old copied.old }
     requires within { copied.old ≤ length timeline.now.cited }
+    requires begins { Begins copies.old.assumed timeline.now.assumed }
     ensures copies { AreCopies timeline.now copies.new }
     ensures covers { CoversFirst timeline.now copies.new copied.new }
     ensures within { copied.new ≤ length timeline.now.cited }
+    ensures begins { Begins copies.new.assumed timeline.now.assumed }
     ensures all { OnOk result (copied.new ≡ length timeline.now.cited) }
 {
     let cited = timeline.cited();
@@ -217,7 +224,9 @@ fn copy(timeline: &Timeline, copies: &mut Copies, id: ClauseId) -> Result<(), No
     requires number { IsNumber timeline.now id }
     requires cited { holds_number id timeline.now.cited ≡ true }
     requires copies { AreCopies timeline.now copies.old }
+    requires begins { Begins copies.old.assumed timeline.now.assumed }
     ensures copies { AreCopies timeline.now copies.new }
+    ensures begins { Begins copies.new.assumed timeline.now.assumed }
     ensures kept { KeepCopies copies.old copies.new }
     ensures copied { OnOk result (HasCopy timeline.now copies.new id) }
 {

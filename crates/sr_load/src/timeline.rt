@@ -22,8 +22,9 @@ ghost use Rattle.sr_load.specs.Buckets.{AreDistinct};
 use crate::counting::{lits_at, propagate};
 use crate::finding::{is_still, test};
 use crate::holding::hold;
+use crate::levels::{assume, close, undo_to};
 use crate::records::{Event, Told};
-use crate::room::make_room;
+use crate::room::{make_room, make_room_for_all};
 use crate::units::is_unit_in;
 use sr_arena::Cref;
 use sr_base::{ClauseId, IdList, Items, Limits, Lit, LitList, NoMemory};
@@ -80,6 +81,7 @@ impl Timeline {
         ensures { IfOk result (λ t. t ≡ before_lines formula) }
     {
         let mut propagator = Propagator::new(alloc, limits);
+        make_room_for_all(&mut propagator, &formula)?;
         let mut refs = Vec::new(alloc);
         let mut flags = Vec::new(alloc);
         hold_all(&formula, &mut propagator, &mut refs, &mut flags)?;
@@ -273,6 +275,8 @@ impl Timeline {
         self.flags[id as usize - 1] = true;
         let at = self.refs[id as usize - 1];
         self.propagator.make_core(at);
+        // A clause of one literal is looked at here, and not again in each test above.
+        close(&mut self.propagator, Part::Core, !self.marks.is_empty());
         Ok(())
     }
 
@@ -282,13 +286,7 @@ impl Timeline {
         ensures err { OnErr result (self.new ≡ self.old) }
     {
         make_room(&mut self.propagator, l.var())?;
-        if self.marks.reserve(1).is_err() {
-            return Err(NoMemory);
-        }
-        self.assumed.push(l)?;
-        self.marks.push_reserved(self.propagator.mark());
-        self.propagator.assume(l);
-        Ok(())
+        assume(&mut self.propagator, &mut self.assumed, &mut self.marks, l)
     }
 
     /// How many literals are assumed.
@@ -303,12 +301,12 @@ impl Timeline {
         requires { mark ≤ length self.old.assumed }
         ensures { self.new ≡ record self.old { assumed = take mark self.old.assumed } }
     {
-        if mark < self.marks.len() {
-            let entries = self.marks[mark];
-            self.propagator.undo_to(entries);
-            self.marks.truncate(mark);
-            self.assumed.truncate(mark);
-        }
+        undo_to(
+            &mut self.propagator,
+            &mut self.assumed,
+            &mut self.marks,
+            mark,
+        );
     }
 
     /// Whether the alive clauses of a part refute what is assumed. Where there is a conflict, `chain` is a lean chain over

@@ -28,4 +28,5 @@ citations-preserved c =
       copies = c.in_ok-copy.ensures.copies;
       covers = covers_next st c.citations.copies c.copy.new.copies k (get_or ns k 0) lt is (λ n h. (c.cited-cited.ensures.known n h).0) c.citations.invariant.covers c.in_ok-copy.ensures.kept c.in_ok-copy.ensures.copied;
       within = omega (arith, lt);
+      begins = c.in_ok-copy.ensures.begins;
     }

@@ -3,6 +3,7 @@ use Rattle.sr_load.specs.Loaded.{LoadedState, alive_in}
 use Rattle.sr_load.specs.Numbers.{has_clause}
 use Rattle.sr_load.proofs.Numbering.{has_number}
 use Rattle.sr_load.proofs.Keeping.{alive_within, alive_attached, keeps_cite}
+use Rattle.sr_load.proofs.Alike.{keeps_derived}
 use Rattle.sr_load.proofs.timeline.Timeline.cite.Goals as goal
 
 pub overflow_sub-id : goal.overflow_sub-id
@@ -35,4 +36,5 @@ make_core-requires c =
 pub invariant_of-self-2 : goal.invariant_of-self-2
 invariant_of-self-2 c =
     let alive = sym (has_number (alive_in c.args.self.now) c.args.id) ∙ c.requires in
-    rw c.in_ok-push.ensures.ok (keeps_cite _ _ _ _ _ _ _ _ c.args.id _ c.self.invariant.0 (subst (λ (st : LoadedState). has_clause (alive_in st) c.args.id ≡ true) (sym c.self.view_is) alive) c.index-at.ensures c.make_core.ensures.value c.make_core.ensures.cells, c.self.invariant.1)
+    let cited = keeps_cite _ _ _ _ _ _ _ _ c.args.id _ c.self.invariant.0 (subst (λ (st : LoadedState). has_clause (alive_in st) c.args.id ≡ true) (sym c.self.view_is) alive) c.index-at.ensures c.make_core.ensures.value c.make_core.ensures.cells in
+    rw c.in_ok-push.ensures.ok (keeps_derived _ _ _ _ _ _ _ _ cited c.close.ensures.derives c.close.ensures.cells c.close.ensures.sound, c.self.invariant.1)
