@@ -14,13 +14,10 @@ use Rattle.sr_emit.specs.declared.outcome.Outcome.TheVariants as outcome
 use Rattle.sr_emit.specs.declared.counts.Counts.{Counts}
 use Rattle.sr_files.specs.Files.{ReadsFiles, GivesFile, HasReadCause}
 use Rattle.sr_trim.specs.Said.{TrimSaid}
-use Rattle.sr_trim.specs.Trimming.{lsr_text, core_text}
-use Rattle.sr_trim.specs.Deciding.{stops, trims, ByPass, IsDecided}
-use Rattle.sr_trim.specs.Outputs.{WritesTwo}
+use Rattle.sr_trim.specs.Deciding.{Decision, stops, trims, passes_lsr, passes_core, ByPass, IsDecided}
 use Rattle.sr_trim.specs.Lines.{LoadsFiles}
-use Rattle.sr_trim.specs.Passing.{HasTexts}
-use Rattle.sr_trim.specs.Finding.{Finds}
-use Rattle.sr_trim.specs.declared.texts.Texts.{Texts}
+use Rattle.sr_trim.specs.Passing.{PassesTo}
+use Rattle.sr_trim.specs.Finding.{Finds, HasDecidedCause}
 
 module _ (lim : LimitValues) (s : TrimSaid) (old mid : Outside) where
   -- it ended before anything was written
@@ -46,34 +43,30 @@ pub pass_cause : (lim : LimitValues) (s : TrimSaid) (f : Formula) (ds : List Don
 pass_cause lim s f ds old mid o (inl r) =
     let is : stops o ≡ stops (outcome.RejectedLemma r.lemma (Some r.against)) = r.is in
     let e : o ≡ outcome.RejectedLemma r.lemma (Some r.against) = cc in subst (λ (x : Outcome). HasReadCause old mid x) (sym e) tt
-pass_cause lim s f ds old mid o (inr p) = at (is_some s.lsr && nat_lt lim.bytes (length (lsr_text s.lsr_form f.clauses p.steps))) refl (is_some s.core && nat_lt lim.bytes (length (core_text f p.steps))) refl
+pass_cause lim s f ds old mid o (inr p) = at (passes_lsr lim s f p.steps) refl (passes_core lim s f p.steps) refl
   where
-    at : (x : Bool) → (is_some s.lsr && nat_lt lim.bytes (length (lsr_text s.lsr_form f.clauses p.steps))) ≡ x → (y : Bool) → (is_some s.core && nat_lt lim.bytes (length (core_text f p.steps))) ≡ y → HasReadCause old mid o
+    at : (x : Bool) → passes_lsr lim s f p.steps ≡ x → (y : Bool) → (passes_core lim s f p.steps) ≡ y → HasReadCause old mid o
     at true ex y ey = let e : stops o ≡ stops (outcome.Limit which.Lsr Bytes) = p.is ∙ rw ex refl in let i : o ≡ outcome.Limit which.Lsr Bytes = cc in subst (λ (x : Outcome). HasReadCause old mid x) (sym i) tt
     at false ex true ey = let e : stops o ≡ stops (outcome.Limit which.Core Bytes) = p.is ∙ rw (ex, ey) refl in let i : o ≡ outcome.Limit which.Core Bytes = cc in subst (λ (x : Outcome). HasReadCause old mid x) (sym i) tt
     at false ex false ey = let e : stops o ≡ trims f ds p.steps = p.is ∙ rw (ex, ey) refl in absurd cc
 
-module _ (lim : LimitValues) (s : TrimSaid) (old mid : Outside) (st : LoaderState) where
-  -- the pass ended without steps
-  pub found_pass : (o : Outcome) (k : Counts) → ReadsFiles old mid → GivesFile 0 s.formula old mid → (2 ≤ mid.begun → GivesFile 1 s.proof old mid)
-      → LoadsFiles lim s mid (Ok st) → (o ≡ outcome.NoMemory) ⊎ ByPass lim s st.formula st.done (stops o) → Finds lim s old mid o k
-  found_pass o k slots formula proof loads (inl e) = inl (record { is = e; reads = inr slots; formula = λ le. formula; proof = proof })
-  found_pass o k slots formula proof loads (inr by) =
-      found_stop lim s old mid o k slots formula proof (pass_cause lim s st.formula st.done old mid o by) (inr (loads.1 (stops o) by))
+cause_of : (lim : LimitValues) (s : TrimSaid) (f : Formula) (ds : List Done) (old mid : Outside) (d : Decision) → ByPass lim s f ds d → HasDecidedCause old mid d
+cause_of lim s f ds old mid (stops o) by = pass_cause lim s f ds old mid o by
+cause_of lim s f ds old mid (trims g es steps) by = tt
 
-  -- the steps were written
-  pub found_trim : (new : Outside) (o : Outcome) (t : Texts) → ReadsFiles old mid → GivesFile 0 s.formula old mid → (2 ≤ mid.begun → GivesFile 1 s.proof old mid)
-      → LoadsFiles lim s mid (Ok st) → HasTexts lim s st.formula st.done t → WritesTwo s.lsr t.lsr s.core t.core mid new o → Finds lim s old new o t.counts
-  found_trim new o t slots formula proof loads h writes =
-      inr (record {
-        decision = trims st.formula st.done h.steps;
-        mid = mid;
-        reads = slots;
-        decided = loads.1 (trims st.formula st.done h.steps) (inr (record { steps = h.steps; trimming = h.trimming; is = sym h.fits }));
-        formula = formula;
-        proof = proof;
-        writes = subst (λ (x : Option (List ℕ)). WritesTwo s.lsr x s.core (option_map (λ name. core_text st.formula h.steps) s.core) mid new o) h.lsr
-            (subst (λ (x : Option (List ℕ)). WritesTwo s.lsr t.lsr s.core x mid new o) h.core writes);
-        counts = h.counts;
-        cause = tt;
-      })
+-- what the pass comes to is what is found
+pub found_pass : (lim : LimitValues) (s : TrimSaid) (old mid : Outside) (st : LoaderState) (new : Outside) (o : Outcome) (k : Counts) → ReadsFiles old mid → GivesFile 0 s.formula old mid
+    → (2 ≤ mid.begun → GivesFile 1 s.proof old mid) → LoadsFiles lim s mid (Ok st) → PassesTo lim s st.formula st.done mid new o k → Finds lim s old new o k
+found_pass lim s old mid st new o k slots formula proof loads (inl e) =
+    subst (λ (x : Outside). Finds lim s old x o k) (sym e.0) (inl (record { is = e.1; reads = inr slots; formula = λ le. formula; proof = proof }))
+found_pass lim s old mid st new o k slots formula proof loads (inr p) = inr (record {
+  decision = p.0;
+  mid = mid;
+  reads = slots;
+  decided = loads.1 p.0 p.1;
+  formula = formula;
+  proof = proof;
+  writes = p.2;
+  counts = p.3;
+  cause = cause_of lim s st.formula st.done old mid p.0 p.1;
+})

@@ -2,3 +2,4 @@ pub mod Standings
 pub mod Opened
 pub mod Found
 pub mod Passed
+pub mod Wrote

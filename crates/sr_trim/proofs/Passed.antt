@@ -1,11 +1,13 @@
 -- From a whole pass to what is written of it.
-use Rattle.std.proofs.Common.{◌≡◌, ◌∙◌, ◌⊎◌, ◌↔◌, ◌++◌, inl, inr, ◌+◌, ℕ, suc, true, false, List, [], ◌∷◌, Option, None, Ok, Err, refl, sym, ap, subst, arith, length}
-use Rattle.std.specs.Prelude.{Result, option_map, is_some, nat_lt, ◌&&◌, ◌||◌, sum_by, All}
+use Rattle.std.proofs.Common.{◌≡◌, ◌∙◌, ◌⊎◌, ◌↔◌, ◌++◌, inl, inr, ◌+◌, ℕ, Bool, suc, true, false, List, [], ◌∷◌, Option, None, Ok, Err, refl, sym, ap, subst, arith, length}
+use Rattle.std.specs.Prelude.{◌<◌, ◌≤◌, min, is_some, nat_lt, Some, ◌&&◌, ◌||◌, sum_by, All}
+use Rattle.std.proofs.lemmas.Bool.Decides.{nat_tests}
 use Rattle.std.proofs.lemmas.List.{map-append, length-map}
 use Rattle.std.proofs.lemmas.List.Sums.{sum_by-append}
 use Rattle.sr_model.proofs.Soundness.{by_test}
 use Rattle.sr_base.specs.Literal.{Literal, NoRepeats}
 use Rattle.sr_base.specs.Limits.{LimitValues}
+use Rattle.sr_base.specs.declared.names.Which.{Which}
 use Rattle.sr_base.specs.declared.names.Which.TheVariants as which
 use Rattle.sr_base.specs.declared.names.LimitKind.TheVariants.{Bytes}
 use Rattle.sr_model.specs.Assignment.{holds_number}
@@ -26,7 +28,7 @@ use Rattle.sr_trimming.proofs.ProofsRewritten.{cited_same, core_same, linked_sam
 use Rattle.sr_trimming.proofs.Written.{written_verified, core_first_written}
 use Rattle.sr_steps.specs.Kept.{Kept, step_of}
 use Rattle.sr_back.specs.Pass.{IsWholePass, steps_of}
-use Rattle.sr_placing.specs.Placing.{placing_of}
+use Rattle.sr_placing.specs.Placing.{PlacingValue, placing_of}
 use Rattle.sr_placing.specs.Counting as kept
 use Rattle.sr_placing.proofs.Placings.{hints_are}
 use Rattle.sr_load.specs.Loading.{lemmas_in, passed_in}
@@ -36,9 +38,8 @@ use Rattle.sr_emit.specs.declared.outcome.Outcome.TheVariants as outcome
 use Rattle.sr_emit.specs.declared.counts.Counts.{Counts}
 use Rattle.sr_trim.specs.Said.{TrimSaid}
 use Rattle.sr_trim.specs.Trimming.{IsTrimming, lsr_text, core_text, group_hints, step_hints, counted, trim_counts}
-use Rattle.sr_trim.specs.Deciding.{stops, trims, by_length, ByPass}
-use Rattle.sr_trim.specs.Passing.{HasTexts, IsWritable, IsGiven, GivesLsr}
-use Rattle.sr_trim.specs.declared.texts.Texts.{Texts}
+use Rattle.sr_trim.specs.Deciding.{stops, trims, by_length, passes_lsr, passes_core, ByPass}
+use Rattle.sr_trim.specs.Passing.{kept_steps, IsWritable, PassesLimit}
 
 -- what steps cite
 cites_same : (n : ℕ) (s t : Step) → IsStepRewritten s t → cites n t ≡ cites n s
@@ -188,61 +189,52 @@ counts_are f ds ks ts k w is_clauses is_core is_lemmas is_steps is_hints is_pass
         → k ≡ record { clauses = length f; core = k.core; lemmas = lemmas_in ds; steps = length ks; hints = counted (sum_by kept.step_hints ks); passed = passed_in ds }
     at k a b c d e = rw (sym a, sym b, sym c, sym d, sym e) refl
 
--- where one text passes the limit, or none does
-lengths : (lim : LimitValues) (s : TrimSaid) (f : Formula) (ds : List Done) (ts : List Step) → (is_some s.lsr && nat_lt lim.bytes (length (lsr_text s.lsr_form f.clauses ts))) ≡ false
-    → (is_some s.core && nat_lt lim.bytes (length (core_text f ts))) ≡ false → by_length lim s f ds ts ≡ trims f ds ts
-lengths lim s f ds ts a b = rw (a, b) refl
+-- a length that is counted up to 64 bits, against a limit that is below
+pub count_tells : (b n r : ℕ) → b ≤ 4294967296 → r ≡ kept.counted n → nat_lt b r ≡ nat_lt b n
+count_tells b n r few is = grind (arith, nat_tests)
 
-lsr_long : (lim : LimitValues) (s : TrimSaid) (f : Formula) (ds : List Done) (ts : List Step) → (is_some s.lsr && nat_lt lim.bytes (length (lsr_text s.lsr_form f.clauses ts))) ≡ true
-    → stops (outcome.Limit which.Lsr Bytes) ≡ by_length lim s f ds ts
-lsr_long lim s f ds ts a = rw a refl
+module _ (lim : LimitValues) (s : TrimSaid) (f : Formula) (ds : List Done) (ts : List Step) where
+  pub lsr_long : passes_lsr lim s f ts ≡ true → PassesLimit lim s f ds ts (Some which.Lsr)
+  lsr_long e = rw e refl
 
-core_long : (lim : LimitValues) (s : TrimSaid) (f : Formula) (ds : List Done) (ts : List Step) → (is_some s.lsr && nat_lt lim.bytes (length (lsr_text s.lsr_form f.clauses ts))) ≡ false
-    → (is_some s.core && nat_lt lim.bytes (length (core_text f ts))) ≡ true → stops (outcome.Limit which.Core Bytes) ≡ by_length lim s f ds ts
-core_long lim s f ds ts a b = rw (a, b) refl
+  pub core_long : passes_lsr lim s f ts ≡ false → passes_core lim s f ts ≡ true → PassesLimit lim s f ds ts (Some which.Core)
+  core_long a e = rw (a, e) refl
 
--- no text is asked for, or memory ran out: the steps as they were read
-pub none_given : (lim : LimitValues) (s : TrimSaid) (st : LoadedState) (ks : List Kept) (h : IsWritable st ks) (result : Result (Option (List ℕ)) Outcome)
-    → IsGiven lim which.Lsr s.lsr (lsr_text s.lsr_form st.formula.clauses (steps_of st.formula.clauses (all_lines st) ks)) result → GivesLsr lim s st ks result
-none_given lim s st ks h result g = (steps_of st.formula.clauses (all_lines st) ks, from_refl st.formula.clauses (all_lines st) (steps_of st.formula.clauses (all_lines st) ks) h.whole.from, g)
+  pub none_long : passes_lsr lim s f ts ≡ false → passes_core lim s f ts ≡ false → PassesLimit lim s f ds ts None
+  none_long a e = rw (a, e) refl
+
+-- the order in which clauses are written doesn't change the core
+pub core_text_same : (f : Formula) (ss ts : List Step) → AreStepsRewritten ss ts → core_text f ss ≡ core_text f ts
+core_text_same f ss ts w = ap (λ cs. written_formula (record { vars = f.vars; clauses = cs })) (core_same f.clauses ss ts w)
+
+pub passes_core_same : (lim : LimitValues) (s : TrimSaid) (f : Formula) (ss ts : List Step) → AreStepsRewritten ss ts → passes_core lim s f ss ≡ passes_core lim s f ts
+passes_core_same lim s f ss ts w = ap (λ (x : List ℕ). is_some s.core && nat_lt lim.bytes (length x)) (core_text_same f ss ts w)
+
+-- what is told of the formula as it was read
+pub core_told : (lim : LimitValues) (s : TrimSaid) (f g : Formula) (p : PlacingValue) (ss : List Step) (b : Bool) → g ≡ f
+    → ((rs : List Step) → p ≡ placing_of g.clauses rs → b ≡ passes_core lim s g rs) → p ≡ placing_of f.clauses ss → b ≡ passes_core lim s f ss
+core_told lim s f g p ss b e h is =
+    subst (λ (x : Formula). b ≡ passes_core lim s x ss) e (h ss (is ∙ ap (λ (x : Formula). placing_of x.clauses ss) (sym e)))
+
+-- kept steps may be written as they are
+pub as_kept : (st : LoadedState) (ks : List Kept) → IsWritable st ks → AreStepsRewritten (kept_steps st ks) (kept_steps st ks)
+as_kept st ks h = from_refl st.formula.clauses (all_lines st) (kept_steps st ks) h.whole.from
 
 module _ (lim : LimitValues) (s : TrimSaid) (st : LoadedState) (ks : List Kept) (n : All NoRepeats st.formula.clauses) (h : IsWritable st ks) where
-  core_text_same : (ts : List Step) → AreStepsRewritten (steps_of st.formula.clauses (all_lines st) ks) ts → core_text st.formula (steps_of st.formula.clauses (all_lines st) ks) ≡ core_text st.formula ts
-  core_text_same ts w = ap (λ cs. written_formula (record { vars = st.formula.vars; clauses = cs })) (core_same st.formula.clauses (steps_of st.formula.clauses (all_lines st) ks) ts w)
+  -- a file passes the limit
+  pub too_long : (which : Which) → ((ts : List Step) → AreStepsRewritten (kept_steps st ks) ts → PassesLimit lim s st.formula (all_lines st) ts (Some which))
+      → ByPass lim s st.formula (all_lines st) (stops (outcome.Limit which Bytes))
+  too_long which long = inr (record {
+    steps = kept_steps st ks;
+    trimming = trimming_of st.formula.clauses (all_lines st) ks (kept_steps st ks) n h.pivots h.whole (as_kept st ks h);
+    is = sym (long (kept_steps st ks) (as_kept st ks h));
+  })
 
-  -- the proof's text isn't given
-  pub no_lsr : (o : Outcome) → GivesLsr lim s st ks (Err o) → (o ≡ outcome.NoMemory) ⊎ ByPass lim s st.formula (all_lines st) (stops o)
-  no_lsr o g = elim g.2 [
-    | inl e ↦ inl e
-    | inr e ↦ inr (inr (record {
-      steps = g.0;
-      trimming = trimming_of st.formula.clauses (all_lines st) ks g.0 n h.pivots h.whole g.1;
-      is = ap stops e.0 ∙ lsr_long lim s st.formula (all_lines st) g.0 e.1;
-    }))
-  ]
-
-  -- the core's text isn't given
-  pub no_core : (b : Option (List ℕ)) (o : Outcome) → GivesLsr lim s st ks (Ok b) → IsGiven lim which.Core s.core (core_text st.formula (steps_of st.formula.clauses (all_lines st) ks)) (Err o)
-      → (o ≡ outcome.NoMemory) ⊎ ByPass lim s st.formula (all_lines st) (stops o)
-  no_core b o g (inl e) = inl e
-  no_core b o g (inr e) =
-      let long : (is_some s.core && nat_lt lim.bytes (length (core_text st.formula g.0))) ≡ true = subst (λ (x : List ℕ). (is_some s.core && nat_lt lim.bytes (length x)) ≡ true) (core_text_same g.0 g.1) e.1 in
-      inr (inr (record {
-        steps = g.0;
-        trimming = trimming_of st.formula.clauses (all_lines st) ks g.0 n h.pivots h.whole g.1;
-        is = ap stops e.0 ∙ core_long lim s st.formula (all_lines st) g.0 g.2.1 long;
-      }))
-
-  -- all is given
-  pub both_given : (t : Texts) → GivesLsr lim s st ks (Ok t.lsr) → IsGiven lim which.Core s.core (core_text st.formula (steps_of st.formula.clauses (all_lines st) ks)) (Ok t.core)
-      → ((ts : List Step) → AreStepsRewritten (steps_of st.formula.clauses (all_lines st) ks) ts → t.counts ≡ trim_counts st.formula.clauses (all_lines st) ts) → HasTexts lim s st.formula (all_lines st) t
-  both_given t g e counts =
-      let short : (is_some s.core && nat_lt lim.bytes (length (core_text st.formula g.0))) ≡ false = subst (λ (x : List ℕ). (is_some s.core && nat_lt lim.bytes (length x)) ≡ false) (core_text_same g.0 g.1) e.1 in
-      record {
-        steps = g.0;
-        trimming = trimming_of st.formula.clauses (all_lines st) ks g.0 n h.pivots h.whole g.1;
-        fits = lengths lim s st.formula (all_lines st) g.0 g.2.1 short;
-        lsr = g.2.0;
-        core = e.0 ∙ ap (λ (x : List ℕ). option_map (λ name. x) s.core) (core_text_same g.0 g.1);
-        counts = counts g.0 g.1;
-      }
+  -- the steps are there
+  pub passed : (ts : List Step) → AreStepsRewritten (kept_steps st ks) ts → PassesLimit lim s st.formula (all_lines st) ts None
+      → ByPass lim s st.formula (all_lines st) (trims st.formula (all_lines st) ts)
+  passed ts w fits = inr (record {
+    steps = ts;
+    trimming = trimming_of st.formula.clauses (all_lines st) ks ts n h.pivots h.whole w;
+    is = sym fits;
+  })

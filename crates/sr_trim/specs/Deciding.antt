@@ -3,7 +3,7 @@
 -- limit of numbers or of cells, or is empty while the clauses don't conflict; the proof ends before they do. Where they
 -- conflict, with the formula alone or after a line, what follows isn't read: a lemma that is needed is shown to fail, or the
 -- steps are there; then the bytes of the proof to write, and of the core, pass the limit of bytes.
-use Rattle.std.specs.Prelude.{ℕ, ◌-◌, ◌≡◌, ◌⊎◌, ◌&&◌, nat_lt, is_some, cond, Option, Some, None, List, [], ◌∷◌, ◌++◌, length}
+use Rattle.std.specs.Prelude.{ℕ, Bool, ◌-◌, ◌≡◌, ◌⊎◌, ◌&&◌, nat_lt, is_some, cond, Option, Some, None, List, [], ◌∷◌, ◌++◌, length}
 use Rattle.sr_base.specs.Limits.{LimitValues}
 use Rattle.sr_base.specs.Contents.{Contents}
 use Rattle.sr_base.specs.declared.names.Which.TheVariants as which
@@ -29,10 +29,17 @@ pub data Decision : Type 0 where
   stops : Outcome → Decision
   trims : Formula → List Done → List Step → Decision
 
+-- whether a file that is asked for passes the limit of bytes
+abbrev pub passes_lsr : LimitValues → TrimSaid → Formula → List Step → Bool
+passes_lsr lim s f steps = is_some s.lsr && nat_lt lim.bytes (length (lsr_text s.lsr_form f.clauses steps))
+
+abbrev pub passes_core : LimitValues → TrimSaid → Formula → List Step → Bool
+passes_core lim s f steps = is_some s.core && nat_lt lim.bytes (length (core_text f steps))
+
 -- what passes the limit of bytes, in the order in which it would be written
 abbrev pub by_length : LimitValues → TrimSaid → Formula → List Done → List Step → Decision
-by_length lim s f ds steps = cond (is_some s.lsr && nat_lt lim.bytes (length (lsr_text s.lsr_form f.clauses steps))) (stops (outcome.Limit which.Lsr Bytes))
-    (cond (is_some s.core && nat_lt lim.bytes (length (core_text f steps))) (stops (outcome.Limit which.Core Bytes)) (trims f ds steps))
+by_length lim s f ds steps = cond (passes_lsr lim s f steps) (stops (outcome.Limit which.Lsr Bytes))
+    (cond (passes_core lim s f steps) (stops (outcome.Limit which.Core Bytes)) (trims f ds steps))
 
 -- a lemma that is needed is shown to fail
 pub record IsRejected (f : Formula) (ds : List Done) (d : Decision) : Type 0 where

@@ -1,5 +1,5 @@
 -- What the pass back through a loaded proof comes to.
-use Rattle.std.specs.Prelude.{ℕ, ◌≡◌, ◌≤◌, ◌⊎◌, ◌&&◌, nat_lt, is_some, true, false, Option, List, length, Result, Ok, Err, option_map}
+use Rattle.std.specs.Prelude.{◌≡◌, ◌≤◌, ◌⊎◌, Option, Some, None, List, All, Result, Ok, Err}
 use Rattle.sr_base.specs.Limits.{LimitValues}
 use Rattle.sr_base.specs.declared.names.Which.{Which}
 use Rattle.sr_base.specs.declared.names.Which.TheVariants as which
@@ -15,22 +15,19 @@ use Rattle.sr_back.specs.Pass.{IsWholePass, steps_of}
 use Rattle.sr_emit.specs.declared.outcome.Outcome.{Outcome}
 use Rattle.sr_emit.specs.declared.outcome.Outcome.TheVariants as outcome
 use Rattle.sr_trim.specs.Said.{TrimSaid}
-use Rattle.sr_trim.specs.Trimming.{IsTrimming, lsr_text, core_text, trim_counts}
-use Rattle.sr_trim.specs.Deciding.{stops, trims, by_length, ByPass}
-use Rattle.sr_trim.specs.declared.texts.Texts.{Texts}
+use Rattle.sr_placing.specs.Placing.{PlacingValue, placing_of}
+use Rattle.sr_emit.specs.declared.counts.Counts.{Counts}
+use Rattle.sr_desk.specs.Outside.{Outside}
+use Rattle.sr_base.specs.Literal.{NoRepeats}
+use Rattle.sr_trim.specs.Trimming.{trim_counts}
+use Rattle.sr_trim.specs.Deciding.{Decision, stops, trims, by_length, ByPass}
+use Rattle.sr_trim.specs.Outputs.{Writes}
+use Rattle.sr_trim.specs.Finding.{AreCounts}
+use Rattle.sr_trim.specs.declared.ready.Ready.{Ready}
 
--- the steps are there, nothing passes the limit of bytes, and these are the bytes of what is asked for, and the counts
-pub record HasTexts (lim : LimitValues) (s : TrimSaid) (f : Formula) (ds : List Done) (t : Texts) : Type 0 where
-  pub steps : List Step
-  pub trimming : IsTrimming f.clauses ds steps
-  pub fits : by_length lim s f ds steps ≡ trims f ds steps
-  pub lsr : t.lsr ≡ option_map (λ name. lsr_text s.lsr_form f.clauses steps) s.lsr
-  pub core : t.core ≡ option_map (λ name. core_text f steps) s.core
-  pub counts : t.counts ≡ trim_counts f.clauses ds steps
-
-abbrev pub PassesTo : LimitValues → TrimSaid → Formula → List Done → Result Texts Outcome → Type 0
-PassesTo lim s f ds (Ok t) = HasTexts lim s f ds t
-PassesTo lim s f ds (Err o) = (o ≡ outcome.NoMemory) ⊎ ByPass lim s f ds (stops o)
+-- the steps that were kept
+abbrev pub kept_steps : LoadedState → List Kept → List Step
+kept_steps st ks = steps_of st.formula.clauses (all_lines st) ks
 
 -- a whole pass, over a proof that may be written
 pub record IsWritable (st : LoadedState) (kept : List Kept) : Type 0 where
@@ -38,12 +35,38 @@ pub record IsWritable (st : LoadedState) (kept : List Kept) : Type 0 where
   pub pivots : LemmasHavePivots (all_lines st)
   pub small : next_of st ≤ 2147483647
 
--- a text that is asked for under a name: it is given unless it passes the limit of bytes
-abbrev pub IsGiven : LimitValues → Which → Option (List ℕ) → List ℕ → Result (Option (List ℕ)) Outcome → Type 0
-IsGiven lim which name text (Ok b) = (b ≡ option_map (λ n. text) name) × ((is_some name && nat_lt lim.bytes (length text)) ≡ false)
-IsGiven lim which name text (Err o) = (o ≡ outcome.NoMemory) ⊎ ((o ≡ outcome.Limit which Bytes) × ((is_some name && nat_lt lim.bytes (length text)) ≡ true))
+-- where each clause of the formula and of the steps is deleted
+abbrev pub IsPlaced : LoadedState → List Kept → PlacingValue → Type 0
+IsPlaced st ks p = p ≡ placing_of st.formula.clauses (kept_steps st ks)
 
--- the text of the steps, each clause in some order after its pivot
-abbrev pub GivesLsr : LimitValues → TrimSaid → LoadedState → List Kept → Result (Option (List ℕ)) Outcome → Type 0
-GivesLsr lim s st kept result = (ts : List Step) × AreStepsRewritten (steps_of st.formula.clauses (all_lines st) kept) ts
-    × IsGiven lim which.Lsr s.lsr (lsr_text s.lsr_form st.formula.clauses ts) result
+-- the first file that is asked for and passes the limit of bytes, or none does
+abbrev pub limited : Formula → List Done → List Step → Option Which → Decision
+limited f ds ss None = trims f ds ss
+limited f ds ss (Some which) = stops (outcome.Limit which Bytes)
+
+abbrev pub PassesLimit : LimitValues → TrimSaid → Formula → List Done → List Step → Option Which → Type 0
+PassesLimit lim s f ds ss which = by_length lim s f ds ss ≡ limited f ds ss which
+
+-- the steps may be written, each clause in some order after its pivot, nothing passes the limit of bytes, and this was counted
+pub record IsReady (lim : LimitValues) (s : TrimSaid) (st : LoadedState) (r : Ready) : Type 0 where
+  pub writable : IsWritable st r.steps
+  pub distinct : All NoRepeats st.formula.clauses
+  pub placed : IsPlaced st r.steps r.placing
+  pub fits : (ts : List Step) → AreStepsRewritten (kept_steps st r.steps) ts → PassesLimit lim s st.formula (all_lines st) ts None
+  pub counts : (ts : List Step) → AreStepsRewritten (kept_steps st r.steps) ts → r.counts ≡ trim_counts st.formula.clauses (all_lines st) ts
+
+-- the steps are ready; else memory ran out, or this was decided
+abbrev pub Prepares : LimitValues → TrimSaid → LoadedState → Result Ready Outcome → Type 0
+Prepares lim s st (Ok r) = IsReady lim s st r
+Prepares lim s st (Err o) = (o ≡ outcome.NoMemory) ⊎ ByPass lim s st.formula (all_lines st) (stops o)
+
+-- the same after the pass back, which keeps the formula and the lines
+pub record PreparesTo (lim : LimitValues) (s : TrimSaid) (old new : LoadedState) (result : Result Ready Outcome) : Type 0 where
+  pub formula : new.formula ≡ old.formula
+  pub lines : all_lines new ≡ old.standing
+  pub prepares : Prepares lim s new result
+
+-- memory ran out before anything was written; or this was decided, written and counted
+abbrev pub PassesTo : LimitValues → TrimSaid → Formula → List Done → Outside → Outside → Outcome → Counts → Type 0
+PassesTo lim s f ds old new o k = ((new ≡ old) × (o ≡ outcome.NoMemory))
+    ⊎ ((d : Decision) × ByPass lim s f ds d × Writes s d old new o × AreCounts d k)

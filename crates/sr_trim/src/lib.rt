@@ -4,7 +4,7 @@
 mod loading;
 mod passing;
 mod reading;
-mod texts;
+mod ready;
 mod trim;
 mod words;
 mod writing;

@@ -1,33 +1,36 @@
-// The pass back through a loaded proof.
-ghost use Rattle.std.specs.Prelude.{◌≡◌};
+// The pass back through a loaded proof, and what is written of it.
+ghost use Rattle.std.specs.Prelude.{◌≡◌, ◌≤◌};
 ghost use Rattle.sr_trimming.specs.Loading.{at_conflict};
 ghost use Rattle.sr_load.specs.Loaded.{IsLoaded};
 ghost use Rattle.sr_load.specs.Loading.{lemmas_in, passed_in};
 ghost use Rattle.sr_trim.specs.Said.{trim_said};
 ghost use Rattle.sr_trim.specs.Deciding.{loading};
-ghost use Rattle.sr_trim.specs.Passing.{PassesTo};
+ghost use Rattle.sr_trim.specs.Passing.{PreparesTo, PassesTo};
 
-use crate::texts::{Texts, make_texts};
+use crate::ready::{Ready, prepare};
+use crate::trim::{Trimmed, without_counts};
 use crate::words::TrimWords;
+use crate::writing::write_files;
 use sr_back::{Back, backward};
 use sr_base::Limits;
+use sr_desk::Desk;
 use sr_emit::Outcome;
 use sr_load::{Loaded, Loader};
 use std::alloc::Global;
 
-/// Passes back through a loaded proof of so many lemmas and deletions of nothing, and makes the bytes of what is asked for.
-fn pass_back<L: Loaded>(
+/// Passes back through a loaded proof of so many lemmas and deletions of nothing, and makes ready what is to be written.
+fn make_ready<L: Loaded>(
     alloc: Global,
     limits: &Limits,
     words: &TrimWords<'_>,
     loaded: &mut L,
     lemmas: u32,
     passed: u64,
-) -> Result<Texts, Outcome>
+) -> Result<Ready, Outcome>
     requires loaded { IsLoaded (L.state loaded.old) }
     requires lemmas { lemmas ≡ lemmas_in (L.state loaded.old).standing }
     requires passed { passed ≡ passed_in (L.state loaded.old).standing }
-    ensures { PassesTo limits.now (trim_said words.now) (L.state loaded.old).formula (L.state loaded.old).standing result }
+    ensures { PreparesTo limits.now (trim_said words.now) (L.state loaded.old) (L.state loaded.new) result }
 {
     match backward(alloc, loaded) {
         Err(_) => Err(Outcome::NoMemory),
@@ -35,24 +38,55 @@ fn pass_back<L: Loaded>(
             lemma,
             against: Some(against),
         }),
-        Ok(Back::Done(steps)) => make_texts(alloc, limits, words, loaded, &steps, lemmas, passed),
+        Ok(Back::Done(steps)) => prepare(alloc, limits, words, loaded, steps, lemmas, passed),
     }
 }
 
-/// Passes back through what was loaded, and makes the bytes of what is asked for.
-pub fn pass(
+/// Passes back through a loaded proof of so many lemmas and deletions of nothing, and writes what is asked for.
+fn pass_back<L: Loaded, D: Desk>(
+    alloc: Global,
+    limits: &Limits,
+    words: &TrimWords<'_>,
+    loaded: &mut L,
+    lemmas: u32,
+    passed: u64,
+    desk: &mut D,
+) -> Trimmed
+    requires begun { (D.outside desk.old).begun ≤ 6 }
+    requires loaded { IsLoaded (L.state loaded.old) }
+    requires lemmas { lemmas ≡ lemmas_in (L.state loaded.old).standing }
+    requires passed { passed ≡ passed_in (L.state loaded.old).standing }
+    ensures { PassesTo limits.now (trim_said words.now) (L.state loaded.old).formula (L.state loaded.old).standing
+        (D.outside desk.old) (D.outside desk.new) result.outcome result.counts }
+{
+    let mut ready = match make_ready(alloc, limits, words, loaded, lemmas, passed) {
+        Ok(ready) => ready,
+        Err(outcome) => return without_counts(outcome),
+    };
+    let outcome = write_files(desk, words, loaded, &mut ready);
+    Trimmed {
+        outcome,
+        counts: ready.counts,
+    }
+}
+
+/// Passes back through what was loaded, and writes what is asked for.
+pub fn pass<D: Desk>(
     alloc: Global,
     limits: &Limits,
     words: &TrimWords<'_>,
     loader: Loader,
-) -> Result<Texts, Outcome>
-    requires { loader ≡ record (loading limits.now (trim_said words.now) loader.formula loader.done) { stop = at_conflict } }
-    ensures { PassesTo limits.now (trim_said words.now) loader.formula loader.done result }
+    desk: &mut D,
+) -> Trimmed
+    requires begun { (D.outside desk.old).begun ≤ 6 }
+    requires conflict { loader ≡ record (loading limits.now (trim_said words.now) loader.formula loader.done) { stop = at_conflict } }
+    ensures { PassesTo limits.now (trim_said words.now) loader.formula loader.done
+        (D.outside desk.old) (D.outside desk.new) result.outcome result.counts }
 {
     let lemmas = loader.lemmas();
     let passed = loader.passed();
     let Ok(mut loaded) = loader.finish() else {
-        return Err(Outcome::NoMemory);
+        return without_counts(Outcome::NoMemory);
     };
-    pass_back(alloc, limits, words, &mut loaded, lemmas, passed)
+    pass_back(alloc, limits, words, &mut loaded, lemmas, passed, desk)
 }

@@ -6,7 +6,6 @@ ghost use Rattle.sr_trim.specs.Finding.{Finds};
 use crate::passing::pass;
 use crate::reading::load_files;
 use crate::words::TrimWords;
-use crate::writing::write_texts;
 use sr_base::Limits;
 use sr_desk::Desk;
 use sr_emit::{Counts, Outcome};
@@ -19,7 +18,8 @@ pub struct Trimmed {
     pub counts: Counts,
 }
 
-fn without_counts(outcome: Outcome) -> Trimmed
+/// An outcome of which nothing was counted.
+pub fn without_counts(outcome: Outcome) -> Trimmed
     ensures { result.outcome ≡ outcome }
 {
     Trimmed {
@@ -52,19 +52,5 @@ pub fn trim_files<D: Desk>(
         Ok(loader) => loader,
         Err(outcome) => return without_counts(outcome),
     };
-    let texts = match pass(alloc, limits, words, loader) {
-        Ok(texts) => texts,
-        Err(outcome) => return without_counts(outcome),
-    };
-    let outcome = write_texts(
-        desk,
-        words.lsr,
-        texts.lsr.as_ref(),
-        words.core,
-        texts.core.as_ref(),
-    );
-    Trimmed {
-        outcome,
-        counts: texts.counts,
-    }
+    pass(alloc, limits, words, loader, desk)
 }
