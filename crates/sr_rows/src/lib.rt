@@ -22,6 +22,8 @@ mod plain;
 #[cfg(test)]
 mod strict;
 #[cfg(test)]
+mod trims;
+#[cfg(test)]
 mod words;
 #[cfg(test)]
 mod written;
