@@ -1,0 +1,9 @@
+pub mod Growing
+pub mod Counting
+pub mod Lines
+pub mod Members
+pub mod Seats
+pub mod Principle
+pub mod Seating
+pub mod Within
+pub mod Lengths

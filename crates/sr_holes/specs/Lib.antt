@@ -1,0 +1,3 @@
+pub mod Holes
+pub mod Places
+pub mod Laws
