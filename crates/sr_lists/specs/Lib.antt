@@ -1,3 +1,4 @@
-pub mod Blocks
+pub mod Stacks
+pub mod Chains
 pub mod Family
-pub mod Keeping
+pub mod Walk

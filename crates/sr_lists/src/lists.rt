@@ -1,20 +1,26 @@
-// The lists of all keys, the watches of a walk that are still ahead, and the blocks to spare.
+// The lists of all keys. A list lies on the stack of its key, and a walk goes along that stack in place,
+// from the newest watch on.
 //
-// A list has a first block of its own, and only full blocks lie below. So the blocks that lie below in all
-// lists hold BLOCK watches each, and with as many blocks as the room divided by BLOCK one is to spare
-// whenever there is room for a watch.
-ghost use Rattle.std.specs.Prelude.{◌≡◌, ◌+◌, ◌-◌, ◌<◌, ◌≤◌, [], ◌∷◌, ◌++◌, Some, None, false, length, max, replicate, IsSome, IsNone, IsTrue, IsOk, ◌↔◌, IfOk, IfSome, OnOk, OnErr, MatchOption};
-ghost use Rattle.sr_lists.specs.Family.{Family, list_at, entries, HasKeys, IsPushed, IsBegun, IsTaken, IsEnded, AreSameLists};
+// The place of a watch that is taken is a hole. A watch that is kept goes into it. Where none is, the
+// newest watch of the stack moves there before the next one is taken, and the stack is a place shorter.
+// The newest place lies behind the walk or is the hole itself, so what lies ahead stays where it is. A
+// watch that is pushed gets a place newer than all others, and so it is behind the walk too.
+//
+// While a hole is open it takes a place beside those of all watches: so the stacks have room for one
+// place more than the lists have room for watches.
+ghost use Rattle.std.specs.Prelude.{ℕ, ◌≡◌, ◌+◌, ◌-◌, ◌<◌, ◌≤◌, [], Some, None, false, length, max, IsSome, IsNone, IsTrue, IsOk, ◌↔◌, IfSome, OnOk, OnErr, MatchOption};
+ghost use Rattle.sr_lists.specs.Family.{Family, entries, HasKeys, IsPushed, IsBegun, IsTaken, IsEnded, AreSameLists};
+ghost use Rattle.sr_lists.specs.Stacks.{stack_at, count_on};
+ghost use Rattle.sr_lists.specs.Walk.{IsAlong, IsOpen, IsClosed, IsFilled};
 
-use crate::blocks::{BLOCK, Pile, Watch};
-use crate::list::WatchList;
+use crate::blocks::Watch;
+use crate::stacks::Stacks;
 use sr_base::NoMemory;
 use std::alloc::Global;
 use std::marker::Model;
-use std::mem;
 
-/// No more watches than this have room.
-const MOST: usize = usize::MAX - BLOCK;
+/// No more watches than this have room, since a hole takes a place too.
+const MOST: usize = usize::MAX - 1;
 
 /// For each key from 0 on a list of watches, in any order.
 ///
@@ -22,28 +28,27 @@ const MOST: usize = usize::MAX - BLOCK;
 /// is gone.
 #[derive(Drop)]
 pub struct Lists {
-    alloc: Global,
-    lists: Vec<WatchList>,
+    stacks: Stacks,
     /// The list that is walked.
     walked: Option<usize>,
-    ahead: WatchList,
-    spare: Pile,
+    /// The place that the walk comes to next; 0 at its end.
+    next: u32,
+    /// The place of the watch that was taken last and not kept; 0 where there is none.
+    hole: u32,
     /// How many watches there are.
     count: usize,
-    /// How many watches the blocks can hold.
-    limit: usize,
     room: usize,
 }
 
 impl Model for Lists {
     ghost use Rattle.sr_lists.specs.Family.{Family};
-    ghost use Rattle.sr_lists.specs.Keeping.{IsKept};
+    ghost use Rattle.sr_lists.specs.Walk.{seen, IsWalked};
 
     ghost Value = { Family };
 
-    ghost view = { λ s. record { lists = s.lists.items; ahead = s.ahead; walked = s.walked; room = s.room } };
+    ghost view = { λ s. seen s.stacks s.walked s.next s.hole s.room };
 
-    ghost invariant = { λ s. IsKept s.lists.items s.ahead s.walked s.spare s.count s.limit s.room };
+    ghost invariant = { λ s. IsWalked s.stacks s.walked s.next s.hole s.count s.room };
 }
 
 impl Lists {
@@ -51,14 +56,14 @@ impl Lists {
     pub fn new(alloc: Global) -> Lists
         ensures { result ≡ record { lists = []; ahead = []; walked = None; room = 0 } }
     {
+        let stacks = Stacks::new(alloc);
+        stacks.apart();
         Lists {
-            alloc,
-            lists: Vec::new(alloc),
+            stacks,
             walked: None,
-            ahead: WatchList::new(),
-            spare: Pile::new(),
+            next: 0,
+            hole: 0,
             count: 0,
-            limit: 0,
             room: 0,
         }
     }
@@ -68,7 +73,7 @@ impl Lists {
     pub fn keys(&self) -> usize
         ensures { result ≡ length self.now.lists }
     {
-        self.lists.len()
+        self.stacks.keys()
     }
 
     /// How many watches there are.
@@ -102,7 +107,9 @@ impl Lists {
         ensures has_keys { keys ≤ length self.old.lists → IsOk result }
         ensures err { OnErr result (AreSameLists self.old self.new × (self.new.room ≡ self.old.room)) }
     {
-        add_empty(&mut self.lists, keys)
+        self.stacks.grow(keys)?;
+        self.stacks.apart();
+        Ok(())
     }
 
     /// Sees that there is room for so many watches more, in whichever lists. Want of memory changes nothing.
@@ -119,10 +126,8 @@ impl Lists {
             return Err(NoMemory);
         }
         let room = self.count + more;
-        while self.limit < room {
-            self.spare.grow(self.alloc)?;
-            self.limit += BLOCK;
-        }
+        self.stacks.reserve(room + 1)?;
+        self.stacks.apart();
         self.room = room;
         Ok(())
     }
@@ -134,7 +139,8 @@ impl Lists {
         requires room { entries self.old < self.old.room }
         ensures { IsPushed self.old self.new key watch }
     {
-        self.lists[key].push(&mut self.spare, watch);
+        self.stacks.add(key, watch);
+        self.stacks.apart();
         self.count += 1;
     }
 
@@ -145,8 +151,8 @@ impl Lists {
         requires idle { IsNone self.old.walked }
         ensures { IsBegun self.old self.new key }
     {
-        mem::swap(&mut self.lists[key], &mut self.ahead);
         self.walked = Some(key);
+        self.next = self.stacks.newest(key);
     }
 
     /// Takes a watch that lies ahead out of the lists; none at the end of the walk.
@@ -154,7 +160,15 @@ impl Lists {
     pub fn next(&mut self) -> Option<Watch>
         ensures { MatchOption result ((self.old.ahead ≡ []) × (self.new ≡ self.old)) (λ w. IsTaken self.old self.new w) }
     {
-        let watch = self.ahead.pop(&mut self.spare)?;
+        let place = self.next;
+        if place == 0 {
+            return None;
+        }
+        fill(&mut self.stacks, self.walked, self.hole);
+        let watch = self.stacks.watch(place);
+        let older = self.stacks.older(place);
+        self.next = older;
+        self.hole = place;
         self.count -= 1;
         Some(watch)
     }
@@ -166,9 +180,16 @@ impl Lists {
         requires room { entries self.old < self.old.room }
         ensures { IfSome self.old.walked (λ key. IsPushed self.old self.new key watch) }
     {
-        if let Some(key) = self.walked {
-            self.push(key, watch);
+        if self.hole == 0 {
+            if let Some(key) = self.walked {
+                self.push(key, watch);
+            }
+            return;
         }
+        self.stacks.put(self.hole, watch);
+        self.stacks.apart();
+        self.hole = 0;
+        self.count += 1;
     }
 
     /// Ends the walk. What still lay ahead stays in the list.
@@ -176,30 +197,38 @@ impl Lists {
         requires { IsSome self.old.walked }
         ensures { IfSome self.old.walked (λ key. IsEnded self.old self.new key) }
     {
-        if let Some(key) = self.walked {
-            while let Some(watch) = self.next() {
-                self.push(key, watch);
-            }
-            self.walked = None;
-        }
+        fill(&mut self.stacks, self.walked, self.hole);
+        self.walked = None;
+        self.next = 0;
+        self.hole = 0;
     }
 }
 
-/// Adds empty lists until there are so many.
-fn add_empty(lists: &mut Vec<WatchList>, keys: usize) -> Result<(), NoMemory>
-    ensures ok { OnOk result (lists.new.items ≡ lists.old.items ++ replicate (keys - length lists.old.items) []) }
-    ensures has_keys { keys ≤ length lists.old.items → IsOk result }
-    ensures err { OnErr result (lists.new.items ≡ lists.old.items) }
+/// Fills the hole on the walked stack, where there is one.
+#[inline]
+fn fill(stacks: &mut Stacks, walked: Option<usize>, hole: u32)
+    requires { IsOpen stacks.old walked hole }
+    ensures { (next : ℕ) → IsAlong stacks.old walked next hole → IsFilled stacks.old stacks.new walked next hole }
 {
-    let start = lists.len();
-    if keys <= start {
-        return Ok(());
+    stacks.apart();
+    if hole == 0 {
+        return;
     }
-    for _i in 0..keys - start {
-        let Ok(()) = lists.push(WatchList::new()) else {
-            lists.truncate(start);
-            return Err(NoMemory);
-        };
+    match walked {
+        None => {}
+        Some(key) => close(stacks, key, hole),
     }
-    Ok(())
+}
+
+/// Moves the newest watch of a stack into a place on it.
+fn close(stacks: &mut Stacks, key: usize, hole: u32)
+    requires key { key < length stacks.old.stacks }
+    requires there { 0 < count_on hole (stack_at stacks.old key) }
+    ensures { IsClosed stacks.old stacks.new key hole }
+{
+    stacks.apart();
+    let watch = stacks.watch(stacks.newest(key));
+    stacks.put(hole, watch);
+    stacks.remove(key);
+    stacks.apart();
 }

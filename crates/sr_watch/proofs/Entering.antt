@@ -8,7 +8,7 @@ use Rattle.sr_model.specs.Assignment.{holds_number}
 use Rattle.sr_model.proofs.Soundness.{by_test}
 use Rattle.sr_lists.specs.declared.blocks.Watch.{Watch}
 use Rattle.sr_lists.specs.Family.{Family, AreSame}
-use Rattle.sr_lists.proofs.Counting.{same_length}
+use Rattle.sr_watch.proofs.Lengths.{same_length}
 use Rattle.sr_watch.specs.declared.watches.Watches.{Watches}
 use Rattle.sr_watch.specs.declared.watches.TheConstants.{UNSEEN}
 use Rattle.sr_watch.specs.Trail.{Entries}

@@ -1,3 +1,4 @@
+mod Lengths
 pub mod Looking
 pub mod Entries
 pub mod Clauses

@@ -175,6 +175,7 @@ impl Trail {
     }
 
     /// Adds an entry. It takes no memory.
+    #[inline(always)]
     pub fn push(&mut self, l: Lit, reason: u32)
         requires { MayEnter self.old l reason }
         ensures value { self.new ≡ with_entry self.old l reason }
@@ -205,6 +206,7 @@ impl Trail {
     }
 
     /// Takes the last entry away.
+    #[inline(always)]
     fn pop(&mut self)
         requires { 0 < length self.old.lits }
         ensures { self.new ≡ first_entries self.old (length self.old.lits - 1) }

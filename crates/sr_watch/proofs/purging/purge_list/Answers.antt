@@ -1,7 +1,7 @@
 use Rattle.std.proofs.Common.{◌∙◌, sym, ap, subst, arith}
 use Rattle.std.specs.Prelude.{IfSome}
 use Rattle.sr_lists.specs.Family.{Family, IsPushed, IsEnded}
-use Rattle.sr_lists.proofs.Counting.{same_length}
+use Rattle.sr_watch.proofs.Lengths.{same_length}
 use Rattle.sr_watch.proofs.OnWalk.{stocked_taken, held_in_hand}
 use Rattle.sr_watch.proofs.Purges.{purging_start, purging_dropped, purging_kept, purging_over}
 use Rattle.sr_watch.proofs.purging.purge_list.Goals as goal

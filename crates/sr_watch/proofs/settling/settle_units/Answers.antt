@@ -2,7 +2,7 @@ use Rattle.std.proofs.Common.{◌≡◌, ◌<◌, sym, ◌∙◌, ap, subst, ari
 use Rattle.std.specs.Prelude.{IfSome}
 use Rattle.sr_base.specs.Literal.{Literal}
 use Rattle.sr_lists.specs.Family.{Family, IsPushed, IsTaken, IsEnded}
-use Rattle.sr_lists.proofs.Counting.{same_length}
+use Rattle.sr_watch.proofs.Lengths.{same_length}
 use Rattle.sr_arena.specs.Cells.{cell_at}
 use Rattle.sr_watch.specs.declared.watches.TheConstants.{UNSEEN}
 use Rattle.sr_watch.proofs.Visits.{attached_on}

@@ -2,7 +2,7 @@ use Rattle.std.proofs.Common.{◌≡◌, ◌<◌, ◌≤◌, ◌+◌, ◌*◌, S
 use Rattle.std.specs.Prelude.{IfSome}
 use Rattle.sr_base.specs.Literal.{variable, complement}
 use Rattle.sr_lists.specs.Family.{Family, IsPushed, IsBegun, IsEnded}
-use Rattle.sr_lists.proofs.Counting.{same_length}
+use Rattle.sr_watch.proofs.Lengths.{same_length}
 use Rattle.sr_watch.specs.Watching.{key_of}
 use Rattle.sr_watch.specs.Walking.{IsFalseOn, IsWalked}
 use Rattle.sr_watch.proofs.Tables.{in_list}

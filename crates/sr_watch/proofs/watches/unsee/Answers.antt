@@ -1,7 +1,7 @@
 use Rattle.std.proofs.Common.{◌≡◌, ◌<◌, ◌∙◌, ap, subst, arith, length}
 use Rattle.std.specs.Prelude.{IfSome}
 use Rattle.sr_lists.specs.Family.{Family, IsEnded}
-use Rattle.sr_lists.proofs.Counting.{same_length}
+use Rattle.sr_watch.proofs.Lengths.{same_length}
 use Rattle.sr_watch.specs.declared.watches.TheConstants.{SEEN}
 use Rattle.sr_watch.proofs.Falls.{none_listed, unseeing_start, unseeing_more, unseeing_over}
 use Rattle.sr_watch.proofs.watches.unsee.Goals as goal

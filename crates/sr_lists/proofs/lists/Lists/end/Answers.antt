@@ -1,12 +1,14 @@
-use Rattle.std.proofs.Common.{arith}
-use Rattle.sr_lists.specs.Family.{IsTaken}
-use Rattle.sr_lists.proofs.Counting.{same_length, ending_more}
+use Rattle.std.proofs.Common.{subst, None}
+use Rattle.std.specs.Prelude.{IfSome}
+use Rattle.sr_lists.specs.Family.{Family, IsEnded}
+use Rattle.sr_lists.specs.Walk.{seen}
+use Rattle.sr_lists.proofs.Walking.{open_here, end_is}
 use Rattle.sr_lists.proofs.lists.Lists.end.Goals as goal
 
-pub loop-watch-smaller : goal.loop-watch-smaller
-loop-watch-smaller c =
-    let t : IsTaken c.loop-watch.self c.next.new.self c.in-Some-next.watch = c.in-Some-next.ensures in
-    omega (arith, t.shorter, same_length c.push.new.self.ahead c.next.new.self.ahead c.push.ensures.ahead)
+pub fill-requires : goal.fill-requires
+fill-requires c = open_here c.self.inside.stacks c.self.inside.walked c.self.inside.next c.self.inside.hole c.self.invariant.along
 
-pub loop-watch-preserved : goal.loop-watch-preserved
-loop-watch-preserved c = ending_more c.args.self.now c.loop-watch.self c.next.new.self c.push.new.self c.in-Some.key c.in-Some-next.watch c.loop-watch.invariant c.in-Some-next.ensures c.push.ensures
+pub returns : goal.returns
+returns c =
+    subst (λ (f : Family). IfSome f.walked (λ key. IsEnded f (seen c.fill.new.stacks None 0 0 c.self.inside.room) key)) c.self.view_is
+    (end_is c.self.inside.stacks c.fill.new.stacks c.self.inside.walked c.self.inside.next c.self.inside.hole c.self.inside.count c.self.inside.room c.self.invariant (c.fill.ensures c.self.inside.next c.self.invariant.along))
