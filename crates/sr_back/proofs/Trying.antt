@@ -20,7 +20,7 @@ use Rattle.sr_trimming.specs.CoreFirst.{cited_so_far, ready, first_of, AreOf, Is
 use Rattle.sr_trimming.specs.From.{Place, witness_of}
 use Rattle.sr_trimming.specs.Evidence.{assumed, moves}
 use Rattle.sr_load.specs.Loaded.{LoadedState, all_in, alive_in, cited_alive, standing_in}
-use Rattle.sr_back.specs.Queued.{AreAbove}
+use Rattle.sr_back.specs.Queued.{AreAbove, Puts}
 use Rattle.sr_back.specs.Citing.{with_cited, CitesAll, is_standing, CitedAreAlive, Finds}
 use Rattle.sr_back.specs.declared.testing.Trial.{Trial}
 use Rattle.sr_back.specs.Testing.{place_in, steps_in, HasWitness, IsWitnessOf, IsChainFrom, IsTested, Tells}
@@ -109,20 +109,20 @@ pub record Waits (st : LoadedState) (p : Place) (n : ℕ) (c : List Literal) : T
   pub alive : clause_of p.alive n ≡ Some c
   pub there : clause_of (cited_alive st) n ≡ Some c
 
-pub waiting : (old st : LoadedState) (later : List Step) (p : Place) (gs : List Group) (queue rest : List ℕ) (n : ℕ) → p.alive ≡ alive_in old → CitedAreAlive st → IsTrying old st later p gs queue → queue ≡ n ∷ rest
+pub waiting : (old st : LoadedState) (later : List Step) (p : Place) (gs : List Group) (queue rest : List ℕ) (n : ℕ) → p.alive ≡ alive_in old → CitedAreAlive st → IsTrying old st later p gs queue → Puts rest queue n
     → (c : List Literal) × Waits st p n c
 waiting old st later p gs queue rest n a ca t e =
-    let s : is_standing st n ≡ true = (t.queued.waits n (ap (holds_number n) e ∙ grind (arith, nat_tests))).0 in
+    let s : is_standing st n ≡ true = (t.queued.waits n (e n ∙ grind (arith, nat_tests))).0 in
     let f = found_number n (alive_in st) (ca n s) in
     let all : clause_of (all_in st) n ≡ Some f.0 = alive_within st n f.0 f.1 in
     (f.0, record { standing = s; of_all = all; alive = ap (λ ps. clause_of ps n) (a ∙ sym (ap alive_in t.tried.same)) ∙ f.1; there = standing_found st n f.0 ca s all })
 
 -- the clause comes next
-next_ready : (old st : LoadedState) (later : List Step) (p : Place) (gs : List Group) (queue rest : List ℕ) (n : ℕ) (c : List Literal) → p.alive ≡ alive_in old → IsTrying old st later p gs queue → queue ≡ n ∷ rest → AreAbove n rest
+next_ready : (old st : LoadedState) (later : List Step) (p : Place) (gs : List Group) (queue rest : List ℕ) (n : ℕ) (c : List Literal) → p.alive ≡ alive_in old → IsTrying old st later p gs queue → Puts rest queue n → AreAbove n rest
     → Waits st p n c → needs_group (assumed p) (moves p) c ≡ true → first_of (ready p.alive later (assumed p) (moves p) gs) ≡ Some (n, c)
 next_ready old st later p gs queue rest n c a t e up w need =
     let test : ℕ × List Literal → Bool = λ q. needs_group (assumed p) (moves p) q.1 && not (holds_number q.0 (map (λ g. g.0) gs)) in
-    let free : has_group gs n ≡ false = (t.queued.waits n (ap (holds_number n) e ∙ grind (arith, nat_tests))).1 in
+    let free : has_group gs n ≡ false = (t.queued.waits n (e n ∙ grind (arith, nat_tests))).1 in
     let here : test (n, c) ≡ true = grind arith in
     ap (λ ps. first_of (filter test ps)) (sym (so_far old st later p gs a t.tried))
     ∙ first_least test 0 (cited_alive st) n c (cited_rises st) w.there here
@@ -132,19 +132,19 @@ next_ready old st later p gs queue rest n c a t e up w need =
     let none : has_group gs m ≡ false = grind arith in
     let both : (has_group gs m || holds_number m queue) ≡ true = t.queued.rest m d s.0 s.1 needs in
     let queued : holds_number m queue ≡ true = grind arith in
-    let split : ((n == m) || holds_number m rest) ≡ true = ap (holds_number m) (sym e) ∙ queued in
+    let split : ((n == m) || holds_number m rest) ≡ true = sym (e m) ∙ queued in
     by_test (n == m) (λ y. grind (arith, nat_tests)) (λ y. let more : n < m = up m (grind arith) in omega arith))
 
 -- a clause that needs no group is let go
-pub trying_spare : (old st : LoadedState) (later : List Step) (p : Place) (gs : List Group) (queue rest : List ℕ) (n : ℕ) (c : List Literal) → IsTrying old st later p gs queue → queue ≡ n ∷ rest → AreAbove n rest
+pub trying_spare : (old st : LoadedState) (later : List Step) (p : Place) (gs : List Group) (queue rest : List ℕ) (n : ℕ) (c : List Literal) → IsTrying old st later p gs queue → Puts rest queue n → AreAbove n rest
     → Waits st p n c → needs_group (assumed p) (moves p) c ≡ false → IsTrying old st later p gs rest
 trying_spare old st later p gs queue rest n c t e up w need = record {
   tried = t.tried;
   queued = record {
-    waits = λ m h. t.queued.waits m (ap (holds_number m) e ∙ grind arith);
+    waits = λ m h. t.queued.waits m (e m ∙ grind arith);
     rest = λ m d s f needs.
         let was : (has_group gs m || holds_number m queue) ≡ true = t.queued.rest m d s f needs in
-        let split : holds_number m queue ≡ ((n == m) || holds_number m rest) = ap (holds_number m) e in
+        let split : holds_number m queue ≡ ((n == m) || holds_number m rest) = e m in
         by_test (n == m)
         (λ y.
         let is : n ≡ m = grind (arith, nat_tests) in
@@ -156,7 +156,7 @@ trying_spare old st later p gs queue rest n c t e up w need = record {
   };
 }
 
-pub trying_stuck : (old st : LoadedState) (later : List Step) (p : Place) (gs : List Group) (queue rest : List ℕ) (n : ℕ) (c : List Literal) → p.alive ≡ alive_in old → IsTrying old st later p gs queue → queue ≡ n ∷ rest → AreAbove n rest
+pub trying_stuck : (old st : LoadedState) (later : List Step) (p : Place) (gs : List Group) (queue rest : List ℕ) (n : ℕ) (c : List Literal) → p.alive ≡ alive_in old → IsTrying old st later p gs queue → Puts rest queue n → AreAbove n rest
     → Waits st p n c → needs_group (assumed p) (moves p) c ≡ true → (¬ Refutes (clauses (alive_in st)) (group_start (assumed p) (moves p) c)) → IsStuckAt later p gs n
 trying_stuck old st later p gs queue rest n c a t e up w need none = record {
   clause = c;
@@ -200,12 +200,12 @@ cites_alive st new ids a o c n s =
     subst (λ x. holds_number n (numbers (alive_in x)) ≡ true) (sym c.same)
     (by_test (holds_number n st.cited) (λ y. a n (grind (arith, nat_tests))) (λ y. o n (grind arith)))
 
-pub trying_met : (old st new : LoadedState) (later : List Step) (p : Place) (gs : List Group) (queue rest more hints : List ℕ) (n : ℕ) (c : List Literal) → p.alive ≡ alive_in old → IsTrying old st later p gs queue → queue ≡ n ∷ rest
+pub trying_met : (old st new : LoadedState) (later : List Step) (p : Place) (gs : List Group) (queue rest more hints : List ℕ) (n : ℕ) (c : List Literal) → p.alive ≡ alive_in old → IsTrying old st later p gs queue → Puts rest queue n
     → AreAbove n rest → Waits st p n c → needs_group (assumed p) (moves p) c ≡ true → IsChainFrom st (group_start (assumed p) (moves p) c) hints → CitesAll st new hints
     → ((m : ℕ) → holds_number m more ≡ (holds_number m rest || (holds_number m hints && not (holds_number m st.cited)))) → IsTrying old new later p (gs ++ (n, hints) ∷ []) more
 trying_met old st new later p gs queue rest more hints n c a t e up w need k cites put =
     let g : Group = (n, hints) in
-    let free : has_group gs n ≡ false = (t.queued.waits n (ap (holds_number n) e ∙ grind (arith, nat_tests))).1 in
+    let free : has_group gs n ≡ false = (t.queued.waits n (e n ∙ grind (arith, nat_tests))).1 in
     let live : alive_in st ≡ p.alive = ap alive_in t.tried.same ∙ sym a in
     let next : (standing_in new).next ≡ (standing_in st).next = ap (λ x. (standing_in x).next) cites.same in
     let all : all_in new ≡ all_in st = ap all_in cites.same in
@@ -226,7 +226,7 @@ trying_met old st new later p gs queue rest more hints n c a t e up w need k cit
       queued = record {
         waits = λ m h. by_test (holds_number m rest)
             (λ y.
-            let was = t.queued.waits m (ap (holds_number m) e ∙ grind arith) in
+            let was = t.queued.waits m (e m ∙ grind arith) in
             let above' : n < m = up m y in
             (grows m was.0, has_group_push gs g m ∙ grind (arith, nat_tests, was.1)))
             (λ y.
@@ -247,7 +247,7 @@ trying_met old st new later p gs queue rest more hints n c a t e up w need k cit
             by_test (holds_number m st.cited)
             (λ y.
             let was : (has_group gs m || holds_number m queue) ≡ true = t.queued.rest m d (grind (arith, nat_tests)) (ap (λ ps. clause_of ps m) (sym all) ∙ f) needs in
-            let queue-is : holds_number m queue ≡ ((n == m) || holds_number m rest) = ap (holds_number m) e in
+            let queue-is : holds_number m queue ≡ ((n == m) || holds_number m rest) = e m in
             grind arith)
             (λ y. fresh_there (holds_number m st.cited) (holds_number m new.cited) (holds_number m hints) (holds_number m rest) (holds_number m more) (has_group (gs ++ g ∷ []) m) cited q (cited_of_standing new m s) y);
       };
@@ -303,22 +303,23 @@ tells_of old st id own kept p n c hints t it e wit f tell =
 pub tested_at : (st : LoadedState) (id : ℕ) (kept : List Kept) (p q : Place) → IsTested st id kept p → place_in st id ≡ Some q → IsTested st id kept q
 tested_at st id kept p q t e = let two : Some p ≡ Some q = sym t.is_place ∙ e in let one : p ≡ q = cc in subst (IsTested st id kept) one t
 
-pub waits_alive : (st : LoadedState) (p : Place) (gs : List Group) (queue rest : List ℕ) (n : ℕ) → CitedAreAlive st → IsQueued st p gs queue → queue ≡ n ∷ rest → holds_number n (numbers (alive_in st)) ≡ true
-waits_alive st p gs queue rest n a q e = a n (q.waits n (ap (holds_number n) e ∙ grind (arith, nat_tests))).0
+pub waits_alive : (st : LoadedState) (p : Place) (gs : List Group) (queue rest : List ℕ) (n : ℕ) → CitedAreAlive st → IsQueued st p gs queue → Puts rest queue n → holds_number n (numbers (alive_in st)) ≡ true
+waits_alive st p gs queue rest n a q e = a n (q.waits n (e n ∙ grind (arith, nat_tests))).0
 
 -- a turn leaves fewer clauses that aren't cited or wait
 not_in_rest : (n : ℕ) (rest : List ℕ) → AreAbove n rest → holds_number n rest ≡ false
 not_in_rest n rest up = by_test (holds_number n rest) (λ y. absurd (let more : n < n = up n y in omega arith)) (λ y. y)
 
-pub spare_falls : (st new : LoadedState) (p : Place) (gs : List Group) (queue rest : List ℕ) (n : ℕ) → CitedAreAlive st → IsQueued st p gs queue → queue ≡ n ∷ rest → AreAbove n rest → new ≡ st
+pub spare_falls : (st new : LoadedState) (p : Place) (gs : List Group) (queue rest : List ℕ) (n : ℕ) → CitedAreAlive st → IsQueued st p gs queue → Puts rest queue n → AreAbove n rest → new ≡ st
     → pending_count new.cited rest (alive_in new) < pending_count st.cited queue (alive_in st)
 spare_falls st new p gs queue rest n a q e up same =
-    let standing : is_standing st n ≡ true = (q.waits n (ap (holds_number n) e ∙ grind (arith, nat_tests))).0 in
+    let standing : is_standing st n ≡ true = (q.waits n (e n ∙ grind (arith, nat_tests))).0 in
     let cited : holds_number n st.cited ≡ true = cited_of_standing st n standing in
     let out : holds_number n rest ≡ false = not_in_rest n rest up in
+    let held : holds_number n queue ≡ ((n == n) || holds_number n rest) = e n in
     subst (λ x. pending_count x.cited rest (alive_in x) < pending_count st.cited queue (alive_in st)) (sym same)
-    (subst (λ xs. pending_count st.cited rest (alive_in st) < pending_count st.cited xs (alive_in st)) (sym e)
-    (count_falls st.cited (n ∷ rest) st.cited rest (alive_in st) n (waits_alive st p gs queue rest n a q e) (grind (arith, nat_tests)) (grind arith) (λ m h. grind (arith, nat_tests))))
+    (count_falls st.cited queue st.cited rest (alive_in st) n (waits_alive st p gs queue rest n a q e) (grind (arith, nat_tests)) (grind arith)
+    (λ m h. let there : holds_number m queue ≡ ((n == m) || holds_number m rest) = e m in grind (arith, nat_tests)))
 
 still_pending : (was now hint rest more here : Bool) → now ≡ (was || hint) → more ≡ (rest || (hint && not was)) → (not now || more) ≡ true → (not was || (here || rest)) ≡ true
 still_pending was now hint rest more here e f h = grind arith
@@ -326,17 +327,17 @@ still_pending was now hint rest more here e f h = grind arith
 no_longer : (was now hint rest more : Bool) → now ≡ (was || hint) → more ≡ (rest || (hint && not was)) → was ≡ true → rest ≡ false → (not now || more) ≡ false
 no_longer was now hint rest more e f w r = grind arith
 
-pub met_falls : (st new : LoadedState) (p : Place) (gs : List Group) (queue rest more hints : List ℕ) (n : ℕ) → CitedAreAlive st → IsQueued st p gs queue → queue ≡ n ∷ rest → AreAbove n rest → CitesAll st new hints
+pub met_falls : (st new : LoadedState) (p : Place) (gs : List Group) (queue rest more hints : List ℕ) (n : ℕ) → CitedAreAlive st → IsQueued st p gs queue → Puts rest queue n → AreAbove n rest → CitesAll st new hints
     → ((m : ℕ) → holds_number m more ≡ (holds_number m rest || (holds_number m hints && not (holds_number m st.cited)))) → pending_count new.cited more (alive_in new) < pending_count st.cited queue (alive_in st)
 met_falls st new p gs queue rest more hints n a q e up cites put =
-    let standing : is_standing st n ≡ true = (q.waits n (ap (holds_number n) e ∙ grind (arith, nat_tests))).0 in
+    let standing : is_standing st n ≡ true = (q.waits n (e n ∙ grind (arith, nat_tests))).0 in
     let cited : holds_number n st.cited ≡ true = cited_of_standing st n standing in
     let out : holds_number n rest ≡ false = not_in_rest n rest up in
     subst (λ ps. pending_count new.cited more ps < pending_count st.cited queue (alive_in st)) (sym (ap alive_in cites.same))
-    (subst (λ xs. pending_count new.cited more (alive_in st) < pending_count st.cited xs (alive_in st)) (sym e)
-    (count_falls st.cited (n ∷ rest) new.cited more (alive_in st) n (waits_alive st p gs queue rest n a q e) (grind (arith, nat_tests))
+    (let held : holds_number n queue ≡ ((n == n) || holds_number n rest) = e n in
+    count_falls st.cited queue new.cited more (alive_in st) n (waits_alive st p gs queue rest n a q e) (grind (arith, nat_tests))
     (no_longer (holds_number n st.cited) (holds_number n new.cited) (holds_number n hints) (holds_number n rest) (holds_number n more) (cites.cited n) (put n) cited out)
-    (λ m h. still_pending (holds_number m st.cited) (holds_number m new.cited) (holds_number m hints) (holds_number m rest) (holds_number m more) (n == m) (cites.cited m) (put m) h)))
+    (λ m h. ap (λ b. not (holds_number m st.cited) || b) (e m) ∙ still_pending (holds_number m st.cited) (holds_number m new.cited) (holds_number m hints) (holds_number m rest) (holds_number m more) (n == m) (cites.cited m) (put m) h))
 
 pub steps_more : (old new was : List Kept) (id : ℕ) (g : Group) → old ≡ step_with id (first_groups old) ∷ was → new ≡ with_group g old → (new ≡ step_with id (first_groups new) ∷ was) × (first_groups new ≡ first_groups old ++ g ∷ [])
 steps_more old new was id g e f =

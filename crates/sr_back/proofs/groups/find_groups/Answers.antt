@@ -1,4 +1,4 @@
-use Rattle.std.proofs.Common.{◌≡◌, ◌<◌, ◌∷◌, ◌||◌, ◌&&◌, not, [], List, ℕ, true, sym, ap, subst, ◌∙◌}
+use Rattle.std.proofs.Common.{◌≡◌, ◌<◌, ◌||◌, ◌&&◌, not, [], List, ℕ, true, sym, ap, subst, ◌∙◌}
 use Rattle.sr_model.specs.Assignment.{holds_number}
 use Rattle.sr_model.specs.Substitution.{substitution}
 use Rattle.sr_model.specs.Meeting.{Group}
@@ -9,7 +9,7 @@ use Rattle.sr_trimming.specs.From.{Place}
 use Rattle.sr_trimming.specs.Evidence.{assumed, moves}
 use Rattle.sr_load.specs.Loaded.{alive_in}
 use Rattle.sr_back.specs.declared.testing.Trial.TheVariants.{Spare, Met, Stuck}
-use Rattle.sr_back.specs.Queued.{AreAbove}
+use Rattle.sr_back.specs.Queued.{AreAbove, Puts}
 use Rattle.sr_back.specs.Citing.{with_cited, CitesAll, CitedAreAlive, IsIndexed}
 use Rattle.sr_back.specs.Testing.{steps_in, IsTested, Tells}
 use Rattle.sr_back.specs.Tries.{HasTried, IsQueued}
@@ -26,7 +26,7 @@ try_clause-requires-clause-from g c =
     let tested = c.requires.tested in
     let p : Place = tested.0 in
     let gs : List Group = first_groups c.tries.steps in
-    let taken : c.tries.queue ≡ c.in-Some.id ∷ c.next.new.self = c.in-Some.ensures.taken in
+    let taken : Puts c.next.new.self c.tries.queue c.in-Some.id = c.in-Some.ensures.taken in
     let least : AreAbove c.in-Some.id c.next.new.self = c.in-Some.ensures.least in
     let t : IsTrying old st (steps_in old c.args.steps.now) p gs c.tries.queue = inv.trying p tested.1 in
     alive_positive st c.in-Some.id (waits_alive st p gs c.tries.queue c.next.new.self c.in-Some.id inv.alive t.queued taken)
@@ -39,7 +39,7 @@ try_clause-requires-clause-below g c =
     let tested = c.requires.tested in
     let p : Place = tested.0 in
     let gs : List Group = first_groups c.tries.steps in
-    let taken : c.tries.queue ≡ c.in-Some.id ∷ c.next.new.self = c.in-Some.ensures.taken in
+    let taken : Puts c.next.new.self c.tries.queue c.in-Some.id = c.in-Some.ensures.taken in
     let least : AreAbove c.in-Some.id c.next.new.self = c.in-Some.ensures.least in
     let t : IsTrying old st (steps_in old c.args.steps.now) p gs c.tries.queue = inv.trying p tested.1 in
     alive_high st c.in-Some.id (waits_alive st p gs c.tries.queue c.next.new.self c.in-Some.id inv.alive t.queued taken)
@@ -52,7 +52,7 @@ tries-smaller-in-Spare g c =
     let tested = c.requires.tested in
     let p : Place = tested.0 in
     let gs : List Group = first_groups c.tries.steps in
-    let taken : c.tries.queue ≡ c.in-Some.id ∷ c.next.new.self = c.in-Some.ensures.taken in
+    let taken : Puts c.next.new.self c.tries.queue c.in-Some.id = c.in-Some.ensures.taken in
     let least : AreAbove c.in-Some.id c.next.new.self = c.in-Some.ensures.least in
     let t : IsTrying old st (steps_in old c.args.steps.now) p gs c.tries.queue = inv.trying p tested.1 in
     let new = g.L.Loaded.state c.try_clause.new.loaded in
@@ -75,7 +75,7 @@ tries-preserved-in-Spare g c =
       steps = inv.steps;
       trying = λ p it.
           let gs : List Group = first_groups c.tries.steps in
-          let taken : c.tries.queue ≡ c.in-Some.id ∷ c.next.new.self = c.in-Some.ensures.taken in
+          let taken : Puts c.next.new.self c.tries.queue c.in-Some.id = c.in-Some.ensures.taken in
           let t : IsTrying old st (steps_in old c.args.steps.now) p gs c.tries.queue = inv.trying p it in
           let w = waiting old st (steps_in old c.args.steps.now) p gs c.tries.queue c.next.new.self c.in-Some.id it.alive inv.alive t taken in
           let told : Tells st (assumed p) (moves p) w.0 c.try_clause.new.chain Spare = tells_of old st c.args.lemma c.args.own.now c.args.steps.now p c.in-Some.id w.0 c.try_clause.new.chain Spare it inv.same c.requires.witness w.1.of_all
@@ -92,7 +92,7 @@ returns-in-Stuck-clause-groups g c q e =
     let tested = c.requires.tested in
     let it : IsTested old c.args.lemma c.args.steps.now q = tested_at old c.args.lemma c.args.steps.now tested.0 q tested.1 e in
     let gs : List Group = first_groups c.tries.steps in
-    let taken : c.tries.queue ≡ c.in-Some.id ∷ c.next.new.self = c.in-Some.ensures.taken in
+    let taken : Puts c.next.new.self c.tries.queue c.in-Some.id = c.in-Some.ensures.taken in
     let least : AreAbove c.in-Some.id c.next.new.self = c.in-Some.ensures.least in
     let t : IsTrying old st (steps_in old c.args.steps.now) q gs c.tries.queue = inv.trying q it in
     let w = waiting old st (steps_in old c.args.steps.now) q gs c.tries.queue c.next.new.self c.in-Some.id it.alive inv.alive t taken in
@@ -112,7 +112,7 @@ cite_all-requires-clause-alive g c n h =
     let tested = c.requires.tested in
     let p : Place = tested.0 in
     let gs : List Group = first_groups c.tries.steps in
-    let taken : c.tries.queue ≡ c.in-Some.id ∷ c.next.new.self = c.in-Some.ensures.taken in
+    let taken : Puts c.next.new.self c.tries.queue c.in-Some.id = c.in-Some.ensures.taken in
     let least : AreAbove c.in-Some.id c.next.new.self = c.in-Some.ensures.least in
     let t : IsTrying old st (steps_in old c.args.steps.now) p gs c.tries.queue = inv.trying p tested.1 in
     let w = waiting old st (steps_in old c.args.steps.now) p gs c.tries.queue c.next.new.self c.in-Some.id tested.1.alive inv.alive t taken in
@@ -129,7 +129,7 @@ tries-smaller g c =
     let tested = c.requires.tested in
     let p : Place = tested.0 in
     let gs : List Group = first_groups c.tries.steps in
-    let taken : c.tries.queue ≡ c.in-Some.id ∷ c.next.new.self = c.in-Some.ensures.taken in
+    let taken : Puts c.next.new.self c.tries.queue c.in-Some.id = c.in-Some.ensures.taken in
     let least : AreAbove c.in-Some.id c.next.new.self = c.in-Some.ensures.least in
     let t : IsTrying old st (steps_in old c.args.steps.now) p gs c.tries.queue = inv.trying p tested.1 in
     let new = g.L.Loaded.state c.cite_all.new.loaded in
@@ -158,7 +158,7 @@ tries-preserved g c =
     let more = steps_more c.tries.steps c.add_group.new.self c.args.steps.now c.args.lemma (c.in-Some.id, c.try_clause.new.chain) inv.steps
     (c.in_ok-add_group-in-Met.ensures.ok ∙ ap (λ ns. with_group (c.in-Some.id, ns) c.tries.steps) c.as_slice-in-Met-2.ensures) in
     let gs : List Group = first_groups c.tries.steps in
-    let taken : c.tries.queue ≡ c.in-Some.id ∷ c.next.new.self = c.in-Some.ensures.taken in
+    let taken : Puts c.next.new.self c.tries.queue c.in-Some.id = c.in-Some.ensures.taken in
     let tested = c.requires.tested in
     let alive-chain : AreOf c.try_clause.new.chain (alive_in st) =
     (let p : Place = tested.0 in

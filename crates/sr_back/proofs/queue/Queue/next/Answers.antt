@@ -1,15 +1,12 @@
-use Rattle.std.proofs.Common.{Option, Some, None, List, ℕ, IfSome}
-use Rattle.std.specs.Prelude.{All}
-use Rattle.std.specs.Ordering.{nat_cmp}
-use Rattle.std.specs.BTreeMap.Range.{IsLtBy}
-use Rattle.sr_back.specs.Queued.{AreAbove}
-use Rattle.sr_back.proofs.Queues.{above_from}
+use Rattle.std.proofs.Common.{◌-◌, List, ℕ, subst}
+use Rattle.std.specs.BinaryHeap.{heap_items}
+use Rattle.sr_back.specs.Queued.{Puts, from_top}
+use Rattle.sr_back.proofs.Queues.{taken_from, above_from}
 use Rattle.sr_back.proofs.queue.Queue.next.Goals as goal
 
--- the others are above the number that was taken
-least_of : (o : Option ℕ) (new : List ℕ) → IfSome o (λ k. All (IsLtBy nat_cmp k) new) → IfSome o (λ n. AreAbove n new)
-least_of None new a = a
-least_of (Some n) new a = above_from n new a
+pub returns-clause-taken : goal.returns-clause-taken
+returns-clause-taken c = subst (λ (x : List ℕ). Puts (from_top (heap_items c.drop_copies.new.heap)) x (4294967295 - c.in_ok-top.top)) c.self.view_is
+    (taken_from c.in_ok-top.top (heap_items c.self.inside.heap) (heap_items c.pop.new.self) (heap_items c.drop_copies.new.heap) c.in_ok-top.ensures.permutation c.drop_copies.ensures.stays)
 
 pub returns-clause-least : goal.returns-clause-least
-returns-clause-least c = least_of c.pop_first.result c.pop_first.new.self.keys c.pop_first.ensures.all_above
+returns-clause-least c = above_from c.in_ok-top.top (heap_items c.drop_copies.new.heap) c.drop_copies.ensures.fits c.drop_copies.ensures.below
