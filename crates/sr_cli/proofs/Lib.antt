@@ -8,3 +8,8 @@ pub mod Printing
 pub mod Touched
 pub mod Trimmed
 pub mod Dispatch
+pub mod HolesRead
+pub mod Stops
+pub mod Demos
+pub mod Outputs
+pub mod Demonstrated

@@ -21,7 +21,7 @@ pub record Begins (most : ℕ) (old new : Outside) : Type 0 where
   pub below : (k : ℕ) → k < old.begun → new.slot k ≡ old.slot k
   pub above : (k : ℕ) → new.begun ≤ k → new.slot k ≡ old.slot k
 
-begins_none : (old new : Outside) → new ≡ old → Begins 0 old new
+pub begins_none : (old new : Outside) → new ≡ old → Begins 0 old new
 begins_none old new e = subst (λ (o : Outside). Begins 0 old o) (sym e) (record { grows = omega arith; few = omega arith; below = λ k lt. refl; above = λ k le. refl })
 
 begins_one : (name : List ℕ) (old new : Outside) → OnlyWritesNext name old new → Begins 1 old new
@@ -32,10 +32,10 @@ begins_one name old new h = record {
   above = λ k le. h.elsewhere k (λ e. omega (arith, e, le, h.begun));
 }
 
-begins_more : (m n : ℕ) (old new : Outside) → m ≤ n → Begins m old new → Begins n old new
+pub begins_more : (m n : ℕ) (old new : Outside) → m ≤ n → Begins m old new → Begins n old new
 begins_more m n old new le h = record { grows = h.grows; few = omega (arith, h.few, le); below = h.below; above = h.above }
 
-begins_then : (m n : ℕ) (old mid new : Outside) → Begins m old mid → Begins n mid new → Begins (m + n) old new
+pub begins_then : (m n : ℕ) (old mid new : Outside) → Begins m old mid → Begins n mid new → Begins (m + n) old new
 begins_then m n old mid new a b = record {
   grows = omega (arith, a.grows, b.grows);
   few = omega (arith, a.few, b.few);
@@ -43,7 +43,7 @@ begins_then m n old mid new a b = record {
   above = λ k le. b.above k le ∙ a.above k (omega (arith, le, b.grows));
 }
 
-one_begins : (w : Which) (name bytes : Option (List ℕ)) (old new : Outside) (o : Outcome) → WritesOne w name bytes old new o → Begins 1 old new
+pub one_begins : (w : Which) (name bytes : Option (List ℕ)) (old new : Outside) (o : Outcome) → WritesOne w name bytes old new o → Begins 1 old new
 one_begins w (Some name) (Some bytes) old new o (inl h) = begins_one name old new h.0.only
 one_begins w (Some name) (Some bytes) old new o (inr h) = begins_one name old new h.0.only
 one_begins w (Some name) None old new o h = begins_more 0 1 old new (omega arith) (begins_none old new h.0)

@@ -37,7 +37,8 @@ use Rattle.sr_trim.specs.Said.{TrimSaid}
 use Rattle.sr_trim.specs.Deciding.{Decision, stops, trims, ByPass, AtStop, ByLine, limit_of, loading, EndsLoading, ByProof, ByClauses, ByFormula, IsDecided}
 use Rattle.sr_trim.specs.Outputs.{WritesOne, Writes}
 use Rattle.sr_trim.specs.Finding.{Finds, Trims, HasDecidedCause}
-use Rattle.sr_cli.specs.Run.{IsRefuted, IsSound, SaysSo, OnlyPrints, Reports, ReportsTrim, RunsTrim, is_unreported, HasRunCause, OnlyTrims}
+use Rattle.sr_cli.specs.Words as words
+use Rattle.sr_cli.specs.Run.{IsRefutedFile, IsSound, SaysSo, OnlyPrints, Reports, ReportsTrim, RunsTrim, is_unreported, HasFilesCause, HasRunCause, OnlyTrims}
 use Rattle.sr_cli.proofs.Refuted.{verified_is, agrees_some, cancel}
 use Rattle.sr_cli.proofs.Touched.{Begins, finds_begin, formula_stays, two_cause, reads_begin, SinkCause, FoundCause}
 
@@ -95,7 +96,7 @@ by_clauses lim s f ts d begun h g = at (nat_lt lim.cells (cells_of f.clauses)) r
     at true e = let k = rw e at h in bad_stop d (outcome.Limit which.Formula Cells) k.0 refl g
     at false e = let k = rw e at h in by_proof lim s f ts d begun k g
 
-decided_refutes : (lim : LimitValues) (s : TrimSaid) (formula proof : Contents) (d : Decision) (begun : ℕ) → IsDecided lim s formula proof d begun → is_good d ≡ true
+pub decided_refutes : (lim : LimitValues) (s : TrimSaid) (formula proof : Contents) (d : Decision) (begun : ℕ) → IsDecided lim s formula proof d begun → is_good d ≡ true
     → (f : Formula) × ((rest : Tokens) × SpellsFormula lim (spelled lim.bytes formula) f rest × Unsat f.clauses)
 decided_refutes lim s formula proof d begun by g = at (formula_at lim (spelled lim.bytes formula)) refl by
   where
@@ -114,7 +115,7 @@ good_of s (stops x) old new o h v = ap is_verified (sym h.1 ∙ v)
 good_of s (trims f ds steps) old new o h v = refl
 
 -- what is found as verified
-pub finds_refutes : (lim : LimitValues) (s : TrimSaid) (old new : Outside) (o : Outcome) (k : Counts) → Finds lim s old new o k → o ≡ outcome.Verified → IsRefuted lim new
+pub finds_refutes : (lim : LimitValues) (s : TrimSaid) (old new : Outside) (o : Outcome) (k : Counts) → Finds lim s old new o k → o ≡ outcome.Verified → IsRefutedFile lim new
 finds_refutes lim s old new o k (inl h) v = let bad : outcome.NoMemory ≡ outcome.Verified = sym h.is ∙ v in absurd cc
 finds_refutes lim s old new o k (inr h) v = λ c a.
     let some = agrees_some (h.mid.slot 1) in
@@ -122,11 +123,11 @@ finds_refutes lim s old new o k (inr h) v = λ c a.
     decided_refutes lim s c some.0 h.decision h.mid.begun (h.decided c some.0 here some.1) (good_of s h.decision h.mid new o h.writes v)
 
 -- printing leaves the formula's slot
-refuted_on : (lim : LimitValues) (mid new : Outside) → new.slot 0 ≡ mid.slot 0 → IsRefuted lim mid → IsRefuted lim new
+refuted_on : (lim : LimitValues) (mid new : Outside) → new.slot 0 ≡ mid.slot 0 → IsRefutedFile lim mid → IsRefutedFile lim new
 refuted_on lim mid new e h c a = h c (subst (λ (x : SlotState). Agrees x c) e a)
 
 -- a run that isn't reported, or is
-reported : (bytes : List ℕ) (mid new : Outside) (found answered : Outcome) → ReportsTrim bytes mid new found answered
+pub reported : (bytes : List ℕ) (mid new : Outside) (found answered : Outcome) → ReportsTrim bytes mid new found answered
     → ((is_unreported found ≡ true) × (answered ≡ found) × (new ≡ mid)) ⊎ ((is_unreported found ≡ false) × OnlyPrints mid new × Reports bytes mid new found answered)
 reported bytes mid new found answered h = at (is_unreported found) refl
   where
@@ -147,17 +148,17 @@ module _ (lim : LimitValues) (s : TrimSaid) (old new : Outside) (answered : Outc
     | inr h ↦ h.1.elsewhere 0 (λ e. cc)
   ]
 
-  refutes : r.found ≡ outcome.Verified → IsRefuted lim new
+  refutes : r.found ≡ outcome.Verified → IsRefutedFile lim new
   refutes v = refuted_on lim r.mid new formula_on (finds_refutes lim s old r.mid r.found r.counts r.finds v)
 
-  pub trim_sound : IsSound lim new answered
+  pub trim_sound : IsSound lim (words.trims s) new answered
   trim_sound v = at (reported _ r.mid new r.found answered r.reports)
     where
       is : answered ≡ outcome.Verified
       is = verified_is answered v
 
       at : ((is_unreported r.found ≡ true) × (answered ≡ r.found) × (new ≡ r.mid))
-          ⊎ ((is_unreported r.found ≡ false) × OnlyPrints r.mid new × Reports (report command.Trim (if s.stats then Some r.counts else None) r.found) r.mid new r.found answered) → IsRefuted lim new
+          ⊎ ((is_unreported r.found ≡ false) × OnlyPrints r.mid new × Reports (report command.Trim (if s.stats then Some r.counts else None) r.found) r.mid new r.found answered) → IsRefutedFile lim new
       at (inl h) = refutes (sym h.1 ∙ is)
       at (inr (_, _, inl h)) = let bad : outcome.NoMemory ≡ outcome.Verified = sym h.0 ∙ is in absurd cc
       at (inr (_, _, inr (inl h))) = refutes (sym h.0 ∙ is)
@@ -166,26 +167,26 @@ module _ (lim : LimitValues) (s : TrimSaid) (old new : Outside) (answered : Outc
   output_same : r.mid.slot 8 ≡ old.slot 8
   output_same = begins.above 8 (omega (arith, begins.few, zero))
 
-  pub trim_says_so : SaysSo lim old new
+  pub trim_says_so : SaysSo lim (words.trims s) old new
   trim_says_so front sent = at (reported _ r.mid new r.found answered r.reports)
     where
       bytes : List ℕ
       bytes = report command.Trim (if s.stats then Some r.counts else None) r.found
 
-      told : (rest : List ℕ) → report command.Trim (if s.stats then Some r.counts else None) r.found ≡ (front ++ verified_line) ++ rest → IsRefuted lim new
+      told : (rest : List ℕ) → report command.Trim (if s.stats then Some r.counts else None) r.found ≡ (front ++ verified_line) ++ rest → IsRefutedFile lim new
       told rest e = refutes (says_so command.Trim (if s.stats then Some r.counts else None) r.found front rest e)
 
       sent_mid : (new.slot 8).sent ≡ (r.mid.slot 8).sent ++ (front ++ verified_line)
       sent_mid = sent ∙ ap (λ (x : SlotState). x.sent ++ (front ++ verified_line)) (sym output_same)
 
-      unsent : new.slot 8 ≡ r.mid.slot 8 → IsRefuted lim new
+      unsent : new.slot 8 ≡ r.mid.slot 8 → IsRefutedFile lim new
       unsent e =
           let same : (r.mid.slot 8).sent ≡ (r.mid.slot 8).sent ++ (front ++ verified_line) = sym (ap (λ (x : SlotState). x.sent) e) ∙ sent_mid in
           let size : length (r.mid.slot 8).sent ≡ length (r.mid.slot 8).sent + (length front + 17) = ap length same ∙ simp length-append in
           absurd (omega arith)
 
       at : ((is_unreported r.found ≡ true) × (answered ≡ r.found) × (new ≡ r.mid))
-          ⊎ ((is_unreported r.found ≡ false) × OnlyPrints r.mid new × Reports (report command.Trim (if s.stats then Some r.counts else None) r.found) r.mid new r.found answered) → IsRefuted lim new
+          ⊎ ((is_unreported r.found ≡ false) × OnlyPrints r.mid new × Reports (report command.Trim (if s.stats then Some r.counts else None) r.found) r.mid new r.found answered) → IsRefutedFile lim new
       at (inl h) = unsent (ap (λ (o : Outside). o.slot 8) h.2)
       at (inr (_, _, inl h)) = unsent h.1
       at (inr (_, _, inr (inl h))) = told [] (cancel (r.mid.slot 8).sent _ _ (sym h.1.sends.sent ∙ sent_mid) ∙ sym (append-nil (front ++ verified_line)))
@@ -267,7 +268,7 @@ module _ (lim : LimitValues) (s : TrimSaid) (old new : Outside) (answered : Outc
       at (inl h) = subst (λ (x : Outcome). FoundCause old r.mid x) (sym h.is) tt
       at (inr h) = at_write h h.decision h.writes h.cause
 
-  cause_mid : (o : Outcome) → FoundCause old r.mid o → HasRunCause old r.mid o
+  cause_mid : (o : Outcome) → FoundCause old r.mid o → HasFilesCause old r.mid o
   cause_mid outcome.Verified h = h
   cause_mid (outcome.RejectedStep id x) h = h
   cause_mid (outcome.RejectedLemma id x) h = h
@@ -283,7 +284,7 @@ module _ (lim : LimitValues) (s : TrimSaid) (old new : Outside) (answered : Outc
   cause_mid (outcome.SinkFault which.Report) h = absurd h
   cause_mid outcome.NoMemory h = h
 
-  cause_on : (o : Outcome) → is_unreported o ≡ false → OnlyPrints r.mid new → HasRunCause old r.mid o → HasRunCause old new o
+  cause_on : (o : Outcome) → is_unreported o ≡ false → OnlyPrints r.mid new → HasFilesCause old r.mid o → HasFilesCause old new o
   cause_on outcome.Verified u only h = tt
   cause_on (outcome.RejectedStep id x) u only h = tt
   cause_on (outcome.RejectedLemma id x) u only h = tt
@@ -299,15 +300,15 @@ module _ (lim : LimitValues) (s : TrimSaid) (old new : Outside) (answered : Outc
   cause_on (outcome.SinkFault w) u only h = absurd cc
   cause_on outcome.NoMemory u only h = tt
 
-  pub trim_cause : HasRunCause old new answered
+  pub trim_cause : HasRunCause (words.trims s) old new answered
   trim_cause = at (reported _ r.mid new r.found answered r.reports)
     where
       at : ((is_unreported r.found ≡ true) × (answered ≡ r.found) × (new ≡ r.mid))
-          ⊎ ((is_unreported r.found ≡ false) × OnlyPrints r.mid new × Reports (report command.Trim (if s.stats then Some r.counts else None) r.found) r.mid new r.found answered) → HasRunCause old new answered
-      at (inl h) = subst (λ (x : Outcome). HasRunCause old new x) (sym h.1) (subst (λ (o : Outside). HasRunCause old o r.found) (sym h.2) (cause_mid r.found found_cause))
-      at (inr (_, _, inl h)) = subst (λ (x : Outcome). HasRunCause old new x) (sym h.0) tt
-      at (inr (u, only, inr (inl h))) = subst (λ (x : Outcome). HasRunCause old new x) (sym h.0) (cause_on r.found u only (cause_mid r.found found_cause))
-      at (inr (_, _, inr (inr h))) = subst (λ (x : Outcome). HasRunCause old new x) (sym h.0) (subst (λ (x : SlotState). Rose x.faults (new.slot 8).faults) output_same h.1.rose)
+          ⊎ ((is_unreported r.found ≡ false) × OnlyPrints r.mid new × Reports (report command.Trim (if s.stats then Some r.counts else None) r.found) r.mid new r.found answered) → HasFilesCause old new answered
+      at (inl h) = subst (λ (x : Outcome). HasFilesCause old new x) (sym h.1) (subst (λ (o : Outside). HasFilesCause old o r.found) (sym h.2) (cause_mid r.found found_cause))
+      at (inr (_, _, inl h)) = subst (λ (x : Outcome). HasFilesCause old new x) (sym h.0) tt
+      at (inr (u, only, inr (inl h))) = subst (λ (x : Outcome). HasFilesCause old new x) (sym h.0) (cause_on r.found u only (cause_mid r.found found_cause))
+      at (inr (_, _, inr (inr h))) = subst (λ (x : Outcome). HasFilesCause old new x) (sym h.0) (subst (λ (x : SlotState). Rose x.faults (new.slot 8).faults) output_same h.1.rose)
 
 -- a run whose outcome isn't reported
 pub runs_unreported : (lim : LimitValues) (s : TrimSaid) (old new : Outside) (o : Outcome) (k : Counts) → Finds lim s old new o k → is_unreported o ≡ true → RunsTrim lim s old new o

@@ -4,12 +4,12 @@ use Rattle.clap.specs.Words.{App, Row, Text, Kinds, HasKind, kind_of, is_simple,
 use Rattle.clap.specs.declared.error.Error.{Error}
 use Rattle.clap.specs.declared.error.kind.ErrorKind.TheVariants.{OutOfMemory}
 use Rattle.clap.proofs.OnLiterals.{clap_on_literals}
-use Rattle.sr_cli.specs.Commands.{check_app, trim_app}
+use Rattle.sr_cli.specs.Commands.{check_app, trim_app, demo_app}
 use Rattle.clap.specs.Simple.{built}
 use Rattle.clap.specs.Faults.{is_free_app}
 use Rattle.sr_cli.specs.declared.words.WordsError.{WordsError}
 use Rattle.sr_cli.specs.declared.words.WordsError.TheVariants.{Refused, NoMemory}
-use Rattle.sr_cli.specs.Words.{said_by, said_where, check_said, trim_by, trim_where, trim_words, Matches, Says, SaysTrim}
+use Rattle.sr_cli.specs.Words.{said_by, said_where, check_said, trim_by, trim_where, trim_words, demo_by, demo_where, demo_words, Matches, Says, SaysTrim, SaysDemo}
 
 pub is_simple-check : is_simple_and_free check_app ≡ true
 unfolding clap_on_literals
@@ -72,3 +72,28 @@ pub trim_refused : (a : App) (words : List Text) (stop : WordsError) → a ≡ t
 trim_refused a words (Refused kind) e m =
     (trim_where-none (fault_of trim_app words) (matches_of trim_app words) (λ f. m.0 (ap (λ (x : App). fault_of x words) e ∙ f)), m.1)
 trim_refused a words NoMemory e m = tt
+
+pub is_simple-demo : is_simple_and_free demo_app ≡ true
+unfolding clap_on_literals
+is_simple-demo = refl
+
+-- the same of the words of `demo`
+demo_where-none : (kinds : Kinds) (rows : List Row) → kinds ≢ [] → demo_where kinds rows ≡ None
+demo_where-none [] rows ne = absurd (ne refl)
+demo_where-none (k ∷ ks) rows ne = refl
+
+demo_where-some : (kinds : Kinds) (rows : List Row) → kinds ≡ [] → demo_where kinds rows ≡ demo_by rows
+demo_where-some [] rows e = refl
+demo_where-some (k ∷ ks) rows e = cc
+
+pub demo_taken : (a : App) (words : List Text) (rows : List Row) → a ≡ demo_app → fault_of a words ≡ [] → rows ≡ matches_of a words
+    → demo_words words ≡ demo_by rows
+demo_taken a words rows e f m =
+    demo_where-some (fault_of demo_app words) (matches_of demo_app words) (ap (λ (x : App). fault_of x words) (sym e) ∙ f)
+    ∙ ap demo_by (ap (λ (x : App). matches_of x words) (sym e) ∙ sym m)
+
+pub demo_refused : (a : App) (words : List Text) (stop : WordsError) → a ≡ demo_app
+    → Matches (fault_of a words) (matches_of a words) (Err stop) → SaysDemo (demo_words words) (Err stop)
+demo_refused a words (Refused kind) e m =
+    (demo_where-none (fault_of demo_app words) (matches_of demo_app words) (λ f. m.0 (ap (λ (x : App). fault_of x words) e ∙ f)), m.1)
+demo_refused a words NoMemory e m = tt

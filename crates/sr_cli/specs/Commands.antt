@@ -30,3 +30,11 @@ trim_files_app = with_rule (with_rule (with_rule (with_rule (bare_app (codes "tr
 abbrev pub trim_app : App
 trim_app = with_rule (with_rule (with_rule (with_rule trim_files_app
     (option_rule (codes "lsr-form"))) (option_rule (codes "core"))) (flag_rule (codes "keep-units"))) (flag_rule (codes "stats"))
+
+-- the number of holes of `demo`, and its files
+abbrev pub demo_files_app : App
+demo_files_app = with_rule (with_rule (with_rule (with_rule (bare_app (codes "demo"))
+    (positional_rule (codes "N"))) (option_rule (codes "formula"))) (option_rule (codes "proof"))) (option_rule (codes "lsr"))
+
+abbrev pub demo_app : App
+demo_app = with_rule (with_rule demo_files_app (option_rule (codes "core"))) (flag_rule (codes "stats"))

@@ -1,4 +1,5 @@
 pub mod Commands
+pub mod Demo
 pub mod Words
 pub mod Check
 pub mod Runs

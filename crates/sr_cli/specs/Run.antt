@@ -1,7 +1,7 @@
 -- What a run does and answers, from its words to what it leaves.
-use Rattle.std.specs.Prelude.{cond, ◌≡◌, ◌≢◌, ◌⊎◌, ℕ, ◌-◌, ◌≤◌, ◌<◌, Bool, true, false, List, ◌++◌, Option, Some, None, if◌then◌else◌}
+use Rattle.std.specs.Prelude.{cond, ◌≡◌, ◌≢◌, ◌⊎◌, ℕ, ◌+◌, ◌-◌, ◌≤◌, ◌<◌, Bool, true, false, List, ◌++◌, Option, Some, None, if◌then◌else◌}
 use Rattle.sr_base.specs.Limits.{LimitValues}
-use Rattle.sr_base.specs.Contents.{Contents}
+use Rattle.sr_base.specs.Contents.{Contents, whole}
 use Rattle.sr_base.specs.declared.names.Which.TheVariants as which
 use Rattle.sr_model.specs.Assignment.{Unsat}
 use Rattle.sr_model.specs.Tokens.{Tokens}
@@ -19,7 +19,8 @@ use Rattle.sr_emit.specs.declared.outcome.Outcome.TheVariants as outcome
 use Rattle.sr_emit.specs.declared.counts.Counts.{Counts}
 use Rattle.sr_trim.specs.Said.{TrimSaid}
 use Rattle.sr_trim.specs.Finding as trim
-use Rattle.sr_cli.specs.Words.{ReadOnly, refused, checks, Asked, only_reads, trims}
+use Rattle.sr_cli.specs.Demo.{DemoSaid, formula_text, FindsDemo}
+use Rattle.sr_cli.specs.Words.{ReadOnly, refused, checks, Asked, only_reads, trims, demos}
 use Rattle.sr_files.specs.Files.{GivesFile, HasReadCause}
 use Rattle.sr_cli.specs.Check.{IsFirst}
 
@@ -90,31 +91,61 @@ pub record RunsTrim (lim : LimitValues) (s : TrimSaid) (old new : Outside) (answ
   pub finds : trim.Finds lim s old mid found counts
   pub reports : ReportsTrim (report command.Trim (if s.stats then Some counts else None) found) mid new found answered
 
+-- what was found over the texts that are made is written and reported
+pub record RunsDemo (lim : LimitValues) (s : DemoSaid) (old new : Outside) (answered : Outcome) : Type 0 where
+  pub found : Outcome
+  pub counts : Counts
+  pub mid : Outside
+  pub finds : FindsDemo lim s old mid found counts
+  pub reports : ReportsTrim (report (command.Demo s.holes s.stats) (Some counts) found) mid new found answered
+
 -- what a run does that is asked for this
 abbrev pub Runs : LimitValues → Asked → Outside → Outside → Outcome → Type 0
 Runs lim (only_reads a) old new answered = RunsReadOnly lim a old new answered
 Runs lim (trims s) old new answered = RunsTrim lim s old new answered
+Runs lim (demos s) old new answered = RunsDemo lim s old new answered
 
--- what the formula's slot gave spells a formula that no assignment satisfies, whatever its file has beyond
-abbrev pub IsRefuted : LimitValues → Outside → Type 0
-IsRefuted lim new = (c : Contents) → Agrees (new.slot 0) c
-    → (f : Formula) × ((rest : Tokens) × SpellsFormula lim (spelled lim.bytes c) f rest × Unsat f.clauses)
+-- the contents spell a formula that no assignment satisfies
+abbrev pub IsRefutedIn : LimitValues → Contents → Type 0
+IsRefutedIn lim c = (f : Formula) × ((rest : Tokens) × SpellsFormula lim (spelled lim.bytes c) f rest × Unsat f.clauses)
+
+-- what the formula's slot gave does, whatever its file has beyond
+abbrev pub IsRefutedFile : LimitValues → Outside → Type 0
+IsRefutedFile lim new = (c : Contents) → Agrees (new.slot 0) c → IsRefutedIn lim c
+
+-- the formula of the run is refuted: the one whose file is read, or the one that is made
+abbrev pub IsRefuted : LimitValues → Asked → Outside → Type 0
+IsRefuted lim (only_reads a) new = IsRefutedFile lim new
+IsRefuted lim (trims s) new = IsRefutedFile lim new
+IsRefuted lim (demos s) new = IsRefutedIn lim (whole (formula_text s.holes))
 
 -- what is answered as verified is refuted
-abbrev pub IsSound : LimitValues → Outside → Outcome → Type 0
-IsSound lim new o = is_verified o ≡ true → IsRefuted lim new
+abbrev pub IsSound : LimitValues → Asked → Outside → Outcome → Type 0
+IsSound lim a new o = is_verified o ≡ true → IsRefuted lim a new
 
 -- where standard output grew by bytes that end with that line, the formula is refuted
-abbrev pub SaysSo : LimitValues → Outside → Outside → Type 0
-SaysSo lim old new = (front : List ℕ) → (new.slot 8).sent ≡ (old.slot 8).sent ++ (front ++ verified_line) → IsRefuted lim new
+abbrev pub SaysSo : LimitValues → Asked → Outside → Outside → Type 0
+SaysSo lim a old new = (front : List ℕ) → (new.slot 8).sent ≡ (old.slot 8).sent ++ (front ++ verified_line) → IsRefuted lim a new
 
 -- a fault of the outside comes only where the count of its slot rose: the formula has the first slot, the proof the second one, a
 -- file that is written the last one that was begun
-abbrev pub HasRunCause : Outside → Outside → Outcome → Type 0
-HasRunCause old new (outcome.SinkFault which.Report) = Rose (old.slot 8).faults (new.slot 8).faults
-HasRunCause old new (outcome.SinkFault which.Lsr) = Rose (old.slot (new.begun - 1)).faults (new.slot (new.begun - 1)).faults
-HasRunCause old new (outcome.SinkFault which.Core) = Rose (old.slot (new.begun - 1)).faults (new.slot (new.begun - 1)).faults
-HasRunCause old new o = HasReadCause old new o
+abbrev pub HasFilesCause : Outside → Outside → Outcome → Type 0
+HasFilesCause old new (outcome.SinkFault which.Report) = Rose (old.slot 8).faults (new.slot 8).faults
+HasFilesCause old new (outcome.SinkFault which.Lsr) = Rose (old.slot (new.begun - 1)).faults (new.slot (new.begun - 1)).faults
+HasFilesCause old new (outcome.SinkFault which.Core) = Rose (old.slot (new.begun - 1)).faults (new.slot (new.begun - 1)).faults
+HasFilesCause old new o = HasReadCause old new o
+
+-- where no file is read, each of them is one of writing
+abbrev pub HasDemoCause : Outside → Outside → Outcome → Type 0
+HasDemoCause old new (outcome.SinkFault which.Report) = Rose (old.slot 8).faults (new.slot 8).faults
+HasDemoCause old new (outcome.SinkFault w) = Rose (old.slot (new.begun - 1)).faults (new.slot (new.begun - 1)).faults
+HasDemoCause old new (outcome.SourceFault w) = ⊥
+HasDemoCause old new o = Unit {0}
+
+abbrev pub HasRunCause : Asked → Outside → Outside → Outcome → Type 0
+HasRunCause (only_reads a) old new o = HasFilesCause old new o
+HasRunCause (trims s) old new o = HasFilesCause old new o
+HasRunCause (demos s) old new o = HasDemoCause old new o
 
 -- known files are read as they are
 abbrev pub GivesReadOnly : ReadOnly → Outside → Outside → Type 0
@@ -137,12 +168,26 @@ pub record OnlyReadsFiles (a : ReadOnly) (old new : Outside) : Type 0 where
 abbrev pub GivesFiles : Asked → Outside → Outside → Type 0
 GivesFiles (only_reads a) old new = GivesReadOnly a old new
 GivesFiles (trims s) old new = 1 ≤ new.begun → GivesFile 0 s.formula old new
+GivesFiles (demos s) old new = Unit {0}
 
 -- no file is written but those that are named for it, as far as the names of slots are known
 pub record OnlyTrims (s : TrimSaid) (old new : Outside) : Type 0 where
   pub begun : new.begun ≤ 4
   pub unread : (k : ℕ) → new.begun ≤ k → k ≢ 8 → new.slot k ≡ old.slot k
 
+-- no more files are begun than are named
+abbrev pub one_if_named : Option (List ℕ) → ℕ
+one_if_named None = 0
+one_if_named (Some name) = 1
+
+abbrev pub files_named : DemoSaid → ℕ
+files_named s = one_if_named s.formula + one_if_named s.proof + one_if_named s.lsr + one_if_named s.core
+
+pub record OnlyDemos (s : DemoSaid) (old new : Outside) : Type 0 where
+  pub begun : new.begun ≤ files_named s
+  pub unread : (k : ℕ) → new.begun ≤ k → k ≢ 8 → new.slot k ≡ old.slot k
+
 abbrev pub OnlyTouches : Asked → Outside → Outside → Type 0
 OnlyTouches (only_reads a) old new = OnlyReadsFiles a old new
 OnlyTouches (trims s) old new = OnlyTrims s old new
+OnlyTouches (demos s) old new = OnlyDemos s old new

@@ -2,6 +2,7 @@
 #![tactic(auto)]
 
 mod check;
+mod demo;
 mod proof;
 mod report;
 mod running;

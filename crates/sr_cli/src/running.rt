@@ -3,12 +3,13 @@ ghost use Rattle.std.specs.Prelude.{◌≡◌, ◌≤◌, map, string_bytes};
 ghost use Rattle.sr_base.specs.Limits.{shipped};
 ghost use Rattle.sr_trim.specs.Said.{trim_said};
 ghost use Rattle.sr_files.specs.Files.{GivesFile};
-ghost use Rattle.sr_cli.specs.Words.{asked, checks, said};
-ghost use Rattle.sr_cli.specs.Run.{Runs, RunsReadOnly, RunsTrim, IsSound, SaysSo, HasRunCause, GivesFiles, GivesReadOnly, OnlyReadsFiles, OnlyTouches, OnlyTrims};
+ghost use Rattle.sr_cli.specs.Words.{asked, checks, only_reads, trims, demos, said, demo_said, AreHoles};
+ghost use Rattle.sr_cli.specs.Run.{Runs, is_unreported, RunsReadOnly, RunsTrim, RunsDemo, IsSound, SaysSo, HasRunCause, GivesFiles, GivesReadOnly, OnlyReadsFiles, OnlyTouches, OnlyTrims, OnlyDemos};
 
 use crate::check::check_files;
+use crate::demo::demo_files;
 use crate::report::report;
-use crate::words::{CheckWords, Task, WordsError, read_words};
+use crate::words::{CheckWords, DemoWords, Task, WordsError, read_words};
 use sr_base::Limits;
 use sr_desk::Desk;
 use sr_emit::{Command, Outcome};
@@ -22,9 +23,9 @@ use std::alloc::Global;
 pub fn run<D: Desk>(alloc: Global, words: &[String], desk: &mut D) -> Outcome
     requires { (D.outside desk.old).begun ≡ 0 }
     ensures runs { Runs shipped (asked (map string_bytes words.now)) (D.outside desk.old) (D.outside desk.new) result }
-    ensures sound { IsSound shipped (D.outside desk.new) result }
-    ensures printed { SaysSo shipped (D.outside desk.old) (D.outside desk.new) }
-    ensures cause { HasRunCause (D.outside desk.old) (D.outside desk.new) result }
+    ensures sound { IsSound shipped (asked (map string_bytes words.now)) (D.outside desk.new) result }
+    ensures printed { SaysSo shipped (asked (map string_bytes words.now)) (D.outside desk.old) (D.outside desk.new) }
+    ensures cause { HasRunCause (asked (map string_bytes words.now)) (D.outside desk.old) (D.outside desk.new) result }
     ensures files { GivesFiles (asked (map string_bytes words.now)) (D.outside desk.old) (D.outside desk.new) }
     ensures only { OnlyTouches (asked (map string_bytes words.now)) (D.outside desk.old) (D.outside desk.new) }
 {
@@ -35,9 +36,9 @@ pub fn run<D: Desk>(alloc: Global, words: &[String], desk: &mut D) -> Outcome
 pub fn run_with<D: Desk>(alloc: Global, limits: &Limits, words: &[String], desk: &mut D) -> Outcome
     requires { (D.outside desk.old).begun ≡ 0 }
     ensures runs { Runs limits.now (asked (map string_bytes words.now)) (D.outside desk.old) (D.outside desk.new) result }
-    ensures sound { IsSound limits.now (D.outside desk.new) result }
-    ensures printed { SaysSo limits.now (D.outside desk.old) (D.outside desk.new) }
-    ensures cause { HasRunCause (D.outside desk.old) (D.outside desk.new) result }
+    ensures sound { IsSound limits.now (asked (map string_bytes words.now)) (D.outside desk.new) result }
+    ensures printed { SaysSo limits.now (asked (map string_bytes words.now)) (D.outside desk.old) (D.outside desk.new) }
+    ensures cause { HasRunCause (asked (map string_bytes words.now)) (D.outside desk.old) (D.outside desk.new) result }
     ensures files { GivesFiles (asked (map string_bytes words.now)) (D.outside desk.old) (D.outside desk.new) }
     ensures only { OnlyTouches (asked (map string_bytes words.now)) (D.outside desk.old) (D.outside desk.new) }
 {
@@ -48,6 +49,7 @@ pub fn run_with<D: Desk>(alloc: Global, limits: &Limits, words: &[String], desk:
         }
         Ok(Task::Check(said)) => run_check(alloc, limits, &said, desk),
         Ok(Task::Trim(said)) => run_trim(alloc, limits, &said, desk),
+        Ok(Task::Demo(said)) => run_demo(alloc, limits, &said, desk),
     }
 }
 
@@ -60,9 +62,9 @@ fn run_check<D: Desk>(
 ) -> Outcome
     requires { (D.outside desk.old).begun ≡ 0 }
     ensures runs { RunsReadOnly limits.now (checks (said asked_for.now)) (D.outside desk.old) (D.outside desk.new) result }
-    ensures sound { IsSound limits.now (D.outside desk.new) result }
-    ensures printed { SaysSo limits.now (D.outside desk.old) (D.outside desk.new) }
-    ensures cause { HasRunCause (D.outside desk.old) (D.outside desk.new) result }
+    ensures sound { IsSound limits.now (only_reads (checks (said asked_for.now))) (D.outside desk.new) result }
+    ensures printed { SaysSo limits.now (only_reads (checks (said asked_for.now))) (D.outside desk.old) (D.outside desk.new) }
+    ensures cause { HasRunCause (only_reads (checks (said asked_for.now))) (D.outside desk.old) (D.outside desk.new) result }
     ensures files { GivesReadOnly (checks (said asked_for.now)) (D.outside desk.old) (D.outside desk.new) }
     ensures only { OnlyReadsFiles (checks (said asked_for.now)) (D.outside desk.old) (D.outside desk.new) }
 {
@@ -81,9 +83,9 @@ fn run_trim<D: Desk>(
 ) -> Outcome
     requires { (D.outside desk.old).begun ≡ 0 }
     ensures runs { RunsTrim limits.now (trim_said asked_for.now) (D.outside desk.old) (D.outside desk.new) result }
-    ensures sound { IsSound limits.now (D.outside desk.new) result }
-    ensures printed { SaysSo limits.now (D.outside desk.old) (D.outside desk.new) }
-    ensures cause { HasRunCause (D.outside desk.old) (D.outside desk.new) result }
+    ensures sound { IsSound limits.now (trims (trim_said asked_for.now)) (D.outside desk.new) result }
+    ensures printed { SaysSo limits.now (trims (trim_said asked_for.now)) (D.outside desk.old) (D.outside desk.new) }
+    ensures cause { HasRunCause (trims (trim_said asked_for.now)) (D.outside desk.old) (D.outside desk.new) result }
     ensures files { 1 ≤ (D.outside desk.new).begun → GivesFile 0 asked_for.now.formula.now (D.outside desk.old) (D.outside desk.new) }
     ensures only { OnlyTrims (trim_said asked_for.now) (D.outside desk.old) (D.outside desk.new) }
 {
@@ -96,4 +98,37 @@ fn run_trim<D: Desk>(
     let all = found.counts;
     let counts = if !asked_for.stats { None } else { Some(&all) };
     report(alloc, Command::Trim, counts, found.outcome, desk)
+}
+
+/// Runs `demo`. A fault of a file that is written, and out of memory, aren't reported.
+fn run_demo<D: Desk>(
+    alloc: Global,
+    limits: &Limits,
+    asked_for: &DemoWords<'_>,
+    desk: &mut D,
+) -> Outcome
+    requires none { (D.outside desk.old).begun ≡ 0 }
+    requires holes { AreHoles asked_for.now.holes }
+    ensures runs { RunsDemo limits.now (demo_said asked_for.now) (D.outside desk.old) (D.outside desk.new) result }
+    ensures sound { IsSound limits.now (demos (demo_said asked_for.now)) (D.outside desk.new) result }
+    ensures printed { SaysSo limits.now (demos (demo_said asked_for.now)) (D.outside desk.old) (D.outside desk.new) }
+    ensures cause { HasRunCause (demos (demo_said asked_for.now)) (D.outside desk.old) (D.outside desk.new) result }
+    ensures only { OnlyDemos (demo_said asked_for.now) (D.outside desk.old) (D.outside desk.new) }
+{
+    let found = demo_files(alloc, limits, asked_for, desk);
+    if is_unreported(found.outcome) {
+        return found.outcome;
+    }
+    let command = Command::Demo {
+        holes: asked_for.holes,
+        stats: asked_for.stats,
+    };
+    report(alloc, command, Some(&found.counts), found.outcome, desk)
+}
+
+/// Whether an outcome isn't reported: a fault of a file that is written, and out of memory.
+fn is_unreported(outcome: Outcome) -> bool
+    ensures { result ≡ is_unreported outcome }
+{
+    matches!(outcome, Outcome::SinkFault { .. } | Outcome::NoMemory)
 }

@@ -1,14 +1,15 @@
 // The words of the command line: the command by hand, and the rest as one simple command for `clap`.
-ghost use Rattle.std.specs.Prelude.{◌≡◌, IfOk, true, false, map, string_bytes, option_map};
+ghost use Rattle.std.specs.Prelude.{◌≡◌, IfOk, IfSome, true, false, map, string_bytes, option_map};
 ghost use Rattle.clap.specs.Words.{app_of, rule_of, with_rule, found_of, rows_of, first_of, matches_of, fault_of, is_simple_and_free};
 ghost use Rattle.sr_trim.specs.Said.{trim_said};
-ghost use Rattle.sr_cli.specs.Commands.{check_app, trim_files_app, trim_app, bare_app, positional_rule, option_rule, flag_rule};
-ghost use Rattle.sr_cli.specs.Words.{form_of, is_on, said_in, said_by, said, check_said, asked_by, asked, trim_in, trim_by, trim_words, trim_asked, is_named, core_is_named, has_same_names, Matches, Says, SaysTrim, SaysTask};
+ghost use Rattle.sr_cli.specs.Commands.{check_app, trim_files_app, trim_app, demo_files_app, demo_app, bare_app, positional_rule, option_rule, flag_rule};
+ghost use Rattle.sr_cli.specs.Words.{form_of, is_on, said_in, said_by, said, check_said, asked_by, asked, trim_in, trim_by, trim_words, trim_asked, is_named, core_is_named, has_same_names, holes_of, holes_in, demo_in, demo_by, demo_words, share_name, demo_shares, demo_asked, demo_said, AreHoles, Matches, Says, SaysTrim, SaysDemo, SaysTask};
 
 use clap::error::ErrorKind;
 use clap::{Arg, ArgAction, ArgMatches, Command};
 use sr_base::Form;
 use sr_emit::UsageKind;
+use sr_holes::MOST_HOLES;
 use sr_trim::TrimWords;
 use std::alloc::{AllocError, Global};
 
@@ -22,11 +23,23 @@ pub struct CheckWords<'a> {
     pub stats: bool,
 }
 
+/// What the words of `demo` say: the number of holes, and where the files go that are asked for.
+#[derive(Clone, Copy, Debug, PartialEq, Eq)]
+pub struct DemoWords<'a> {
+    pub holes: u32,
+    pub formula: Option<&'a str>,
+    pub proof: Option<&'a str>,
+    pub lsr: Option<&'a str>,
+    pub core: Option<&'a str>,
+    pub stats: bool,
+}
+
 /// What a run is asked for.
 #[derive(Clone, Copy, Debug, PartialEq, Eq)]
 pub enum Task<'a> {
     Check(CheckWords<'a>),
     Trim(TrimWords<'a>),
+    Demo(DemoWords<'a>),
 }
 
 /// Why the words say nothing.
@@ -48,6 +61,9 @@ pub fn read_words<'a>(alloc: Global, words: &'a [String]) -> Result<Task<'a>, Wo
     }
     if command.as_str() == "trim" {
         return trim_task(alloc, rest);
+    }
+    if command.as_str() == "demo" {
+        return demo_task(alloc, rest);
     }
     Err(WordsError::Refused(UsageKind::UnknownCommand))
 }
@@ -84,6 +100,22 @@ fn trim_task<'a>(alloc: Global, rest: &'a [String]) -> Result<Task<'a>, WordsErr
     }
 }
 
+/// What the words of `demo` ask for.
+fn demo_task<'a>(alloc: Global, rest: &'a [String]) -> Result<Task<'a>, WordsError>
+    ensures { SaysTask (demo_asked (demo_words (map string_bytes rest.entry.now))) result }
+{
+    match words_of_demo(alloc, rest) {
+        Err(stop) => Err(stop),
+        Ok(said) => {
+            if demo_shares(&said) {
+                Err(WordsError::Refused(UsageKind::SameName))
+            } else {
+                Ok(Task::Demo(said))
+            }
+        }
+    }
+}
+
 /// Whether a file is named, and so.
 fn is_named(name: Option<&str>, other: &str) -> bool
     ensures { result ≡ is_named (option_map (λ s. s.now) name.entry) other.now }
@@ -114,6 +146,28 @@ fn is_core_named(words: &TrimWords<'_>) -> bool
         None => false,
         Some(lsr) => is_named(words.core, lsr),
     }
+}
+
+/// Whether both files are named, and alike.
+fn share_name(name: Option<&str>, other: Option<&str>) -> bool
+    ensures { result ≡ share_name (option_map (λ s. s.now) name.entry) (option_map (λ s. s.now) other.entry) }
+{
+    match (name, other) {
+        (Some(name), Some(other)) => name == other,
+        _ => false,
+    }
+}
+
+/// Whether two of the files that are asked for have one name.
+fn demo_shares(words: &DemoWords<'_>) -> bool
+    ensures { result ≡ demo_shares (demo_said words.now) }
+{
+    share_name(words.formula, words.proof)
+        || share_name(words.formula, words.lsr)
+        || share_name(words.formula, words.core)
+        || share_name(words.proof, words.lsr)
+        || share_name(words.proof, words.core)
+        || share_name(words.lsr, words.core)
 }
 
 fn positional<'a>(alloc: Global, id: &'a str) -> Arg<'a>
@@ -201,6 +255,24 @@ fn trim_command<'a>(alloc: Global) -> Result<Command<'a>, AllocError>
     let command = with_option(command, alloc, "lsr-form")?;
     let command = with_option(command, alloc, "core")?;
     let command = with_flag(command, alloc, "keep-units")?;
+    with_flag(command, alloc, "stats")
+}
+
+fn demo_files_command<'a>(alloc: Global) -> Result<Command<'a>, AllocError>
+    ensures { IfOk result (λ c. app_of c ≡ demo_files_app) }
+{
+    let command = bare(alloc, "demo");
+    let command = with_positional(command, alloc, "N")?;
+    let command = with_option(command, alloc, "formula")?;
+    let command = with_option(command, alloc, "proof")?;
+    with_option(command, alloc, "lsr")
+}
+
+fn demo_command<'a>(alloc: Global) -> Result<Command<'a>, AllocError>
+    ensures { IfOk result (λ c. app_of c ≡ demo_app) }
+{
+    let command = demo_files_command(alloc)?;
+    let command = with_option(command, alloc, "core")?;
     with_flag(command, alloc, "stats")
 }
 
@@ -360,6 +432,89 @@ fn words_of_trim<'a>(alloc: Global, words: &'a [String]) -> Result<TrimWords<'a>
         Err(stop) => return Err(stop),
     };
     match read_trim(&matches) {
+        Some(said) => Ok(said),
+        None => Err(WordsError::Refused(UsageKind::Words)),
+    }
+}
+
+/// The number of holes of some digits; none where it is no number, or the formula isn't made for so many.
+fn holes_of(digits: &str) -> Option<u32>
+    ensures value { result ≡ holes_of digits.now }
+    ensures are { IfSome result AreHoles }
+{
+    let mut holes: u32 = 0;
+    for digit in digits.as_bytes() {
+        if !digit.is_ascii_digit() {
+            return None;
+        }
+        holes = 10 * holes + u32::from(*digit - b'0');
+        if holes > MOST_HOLES {
+            return None;
+        }
+    }
+    if holes < 2 {
+        return None;
+    }
+    Some(holes)
+}
+
+fn holes_in(digits: Option<&str>) -> Option<u32>
+    ensures value { result ≡ holes_in (option_map (λ s. s.now) digits.entry) }
+    ensures are { IfSome result AreHoles }
+{
+    match digits {
+        None => None,
+        Some(digits) => holes_of(digits),
+    }
+}
+
+/// The words of `demo`, where there is a number of holes.
+fn demo_of<'a>(
+    holes: Option<u32>,
+    inputs: (Option<&'a str>, Option<&'a str>),
+    outputs: (Option<&'a str>, Option<&'a str>),
+    stats: bool,
+) -> Option<DemoWords<'a>>
+    requires { IfSome holes AreHoles }
+    ensures said { option_map demo_said result ≡ demo_in holes (option_map (λ s. s.now) inputs.entry.0) (option_map (λ s. s.now) inputs.entry.1)
+        (option_map (λ s. s.now) outputs.entry.0) (option_map (λ s. s.now) outputs.entry.1) stats }
+    ensures are { IfSome result (λ w. AreHoles w.holes) }
+{
+    let Some(holes) = holes else { return None };
+    Some(DemoWords {
+        holes,
+        formula: inputs.0,
+        proof: inputs.1,
+        lsr: outputs.0,
+        core: outputs.1,
+        stats,
+    })
+}
+
+fn read_demo<'a>(matches: &ArgMatches<'a>) -> Option<DemoWords<'a>>
+    ensures said { option_map demo_said result ≡ demo_by (rows_of (found_of matches.now)) }
+    ensures are { IfSome result (λ w. AreHoles w.holes) }
+{
+    demo_of(
+        holes_in(value(matches, "N")),
+        (value(matches, "formula"), value(matches, "proof")),
+        (value(matches, "lsr"), value(matches, "core")),
+        is_on(value(matches, "stats")),
+    )
+}
+
+/// What the words of `demo` say, or a refusal exactly where the command doesn't take them.
+fn words_of_demo<'a>(alloc: Global, words: &'a [String]) -> Result<DemoWords<'a>, WordsError>
+    ensures { SaysDemo (demo_words (map string_bytes words.entry.now)) result }
+{
+    let Ok(command) = demo_command(alloc) else {
+        return Err(WordsError::NoMemory);
+    };
+    let matches = match matches_for(command, words) {
+        Ok(matches) => matches,
+        Err(stop) => return Err(stop),
+    };
+    match read_demo(&matches) {
         Some(said) => Ok(said),
         None => Err(WordsError::Refused(UsageKind::Words)),
     }

@@ -15,7 +15,7 @@ use Rattle.sr_emit.specs.declared.outcome.UsageKind.{UsageKind}
 use Rattle.sr_emit.specs.declared.outcome.UsageKind.TheVariants as usage
 use Rattle.sr_emit.specs.declared.counts.Counts.{Counts}
 use Rattle.sr_emit.specs.declared.report.Command.{Command}
-use Rattle.sr_emit.specs.declared.report.Command.TheVariants.{Check, Trim, Other}
+use Rattle.sr_emit.specs.declared.report.Command.TheVariants.{Check, Trim, Demo, Other}
 use Rattle.sr_emit.specs.declared.outcome.Outcome.{Outcome}
 use Rattle.sr_emit.specs.declared.outcome.Outcome.TheVariants.{Verified, RejectedStep, RejectedLemma, NoEmptyClause, Usage, Text, Limit, SourceFault, SinkFault, NoMemory}
 use Rattle.sr_emit.specs.Names.{which_name, text_name, limit_name, usage_name, cause_text}
@@ -185,6 +185,16 @@ without_statistics Trim (Some k) (Limit which kind) = inr refl
 without_statistics Trim (Some k) (SourceFault which) = inr refl
 without_statistics Trim (Some k) (SinkFault which) = inr refl
 without_statistics Trim (Some k) NoMemory = inr refl
+without_statistics (Demo holes stats) None o = inr refl
+without_statistics (Demo holes stats) (Some k) (RejectedStep id cause) = inr refl
+without_statistics (Demo holes stats) (Some k) (RejectedLemma lemma against) = inr refl
+without_statistics (Demo holes stats) (Some k) NoEmptyClause = inr refl
+without_statistics (Demo holes stats) (Some k) (Usage kind) = inr refl
+without_statistics (Demo holes stats) (Some k) (Text which kind place) = inr refl
+without_statistics (Demo holes stats) (Some k) (Limit which kind) = inr refl
+without_statistics (Demo holes stats) (Some k) (SourceFault which) = inr refl
+without_statistics (Demo holes stats) (Some k) (SinkFault which) = inr refl
+without_statistics (Demo holes stats) (Some k) NoMemory = inr refl
 
 line_heard : (before rest : List ℕ) → ends_in_t false (before ++ verified_line ++ rest) ≡ true
 unfolding ends_in_t last_is_t

@@ -1,9 +1,9 @@
 -- The report on standard output. Parts of a line are parted by one space, and a line feed ends it.
-use Rattle.std.specs.Prelude.{ℕ, ◌≡◌, List, [], ◌∷◌, ◌++◌, Option, Some, None, codes, decimal}
+use Rattle.std.specs.Prelude.{ℕ, ◌≡◌, Bool, if◌then◌else◌, List, [], ◌∷◌, ◌++◌, Option, Some, None, codes, decimal}
 use Rattle.sr_emit.specs.Names.{which_name, text_name, limit_name, usage_name, cause_text}
 use Rattle.sr_emit.specs.declared.counts.Counts.{Counts}
 use Rattle.sr_emit.specs.declared.report.Command.{Command}
-use Rattle.sr_emit.specs.declared.report.Command.TheVariants.{Check, Trim}
+use Rattle.sr_emit.specs.declared.report.Command.TheVariants.{Check, Trim, Demo}
 use Rattle.sr_emit.specs.declared.outcome.Outcome.{Outcome}
 use Rattle.sr_emit.specs.declared.outcome.Outcome.TheVariants.{Verified, RejectedStep, RejectedLemma, NoEmptyClause, Usage, Text, Limit, SourceFault, SinkFault, NoMemory}
 
@@ -50,10 +50,18 @@ abbrev pub trim_lines : Counts → List ℕ
 trim_lines k = count_line (codes "clauses") k.clauses ++ count_line (codes "core") k.core ++ count_line (codes "lemmas") k.lemmas
     ++ count_line (codes "steps") k.steps ++ count_line (codes "hints") k.hints ++ count_line (codes "passed") k.passed
 
+abbrev pub short_lines : Counts → List ℕ
+short_lines k = count_line (codes "clauses") k.clauses ++ count_line (codes "lemmas") k.lemmas
+
+-- the holes, and then what was counted, all of it where that is asked for
+abbrev pub demo_lines : ℕ → Bool → Counts → List ℕ
+demo_lines holes stats k = count_line (codes "holes") holes ++ (if stats then trim_lines k else short_lines k)
+
 -- statistics stand before the last line of a verified run that is asked for them
 abbrev pub statistics_of : Command → Option Counts → Outcome → List ℕ
 statistics_of Check (Some k) Verified = check_lines k
 statistics_of Trim (Some k) Verified = trim_lines k
+statistics_of (Demo holes stats) (Some k) Verified = demo_lines holes stats k
 statistics_of command counts outcome = []
 
 abbrev pub report : Command → Option Counts → Outcome → List ℕ

@@ -1,6 +1,6 @@
 // The report on standard output: the lines of `--stats` where verified, and a last line for each outcome.
 ghost use Rattle.std.specs.Prelude.{◌≡◌, ◌++◌, IfOk, string_bytes, option_map, decimal};
-ghost use Rattle.sr_emit.specs.Report.{report, rejected_line, rejected_lemma_line, last_line, count_line, check_lines, trim_lines, statistics_of};
+ghost use Rattle.sr_emit.specs.Report.{report, rejected_line, rejected_lemma_line, last_line, count_line, check_lines, trim_lines, short_lines, demo_lines, statistics_of};
 
 use crate::counts::Counts;
 use crate::names::{name_of_limit, name_of_text, name_of_usage, name_of_which, text_of_cause};
@@ -13,12 +13,14 @@ use std::alloc::{AllocError, Global};
 pub enum Command {
     Check,
     Trim,
+    /// `demo` with so many holes, and whether all counts are asked for.
+    Demo { holes: u32, stats: bool },
     /// None that is known.
     Other,
 }
 
-/// The bytes of the report. `counts` are given where statistics are asked for; they are printed where the outcome is
-/// verified. A fault of writing and want of memory print nothing.
+/// The bytes of the report. `counts` are given where statistics are asked for, and always for `demo`; they are printed where the
+/// outcome is verified. A fault of writing and want of memory print nothing.
 pub fn report_bytes(
     alloc: Global,
     command: Command,
@@ -68,6 +70,9 @@ fn statistics(
     match (command, counts, outcome) {
         (Command::Check, Some(counts), Outcome::Verified) => check_statistics(alloc, counts),
         (Command::Trim, Some(counts), Outcome::Verified) => trim_statistics(alloc, counts),
+        (Command::Demo { holes, stats }, Some(counts), Outcome::Verified) => {
+            demo_statistics(alloc, holes, stats, counts)
+        }
         _ => Ok(String::new(alloc)),
     }
 }
@@ -100,6 +105,34 @@ fn trim_statistics(alloc: Global, counts: &Counts) -> Result<String, AllocError>
     let passed = count_line(alloc, "passed", counts.passed)?;
     text.push_str(passed.as_str())?;
     Ok(text)
+}
+
+/// The holes and then, where they are asked for, all counts of trimming; else the clauses and the lemmas.
+fn demo_statistics(
+    alloc: Global,
+    holes: u32,
+    stats: bool,
+    counts: &Counts,
+) -> Result<String, AllocError>
+    ensures { IfOk result (λ s. string_bytes s ≡ demo_lines holes stats counts.now) }
+{
+    let mut text = count_line(alloc, "holes", u64::from(holes))?;
+    let more = if stats {
+        trim_statistics(alloc, counts)?
+    } else {
+        short_statistics(alloc, counts)?
+    };
+    text.push_str(more.as_str())?;
+    Ok(text)
+}
+
+fn short_statistics(alloc: Global, counts: &Counts) -> Result<String, AllocError>
+    ensures { IfOk result (λ s. string_bytes s ≡ short_lines counts.now) }
+{
+    let mut lines = count_line(alloc, "clauses", counts.clauses)?;
+    let lemmas = count_line(alloc, "lemmas", counts.lemmas)?;
+    lines.push_str(lemmas.as_str())?;
+    Ok(lines)
 }
 
 fn count_line(alloc: Global, name: &str, count: u64) -> Result<String, AllocError>

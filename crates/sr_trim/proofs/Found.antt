@@ -17,7 +17,7 @@ use Rattle.sr_trim.specs.Said.{TrimSaid}
 use Rattle.sr_trim.specs.Deciding.{Decision, stops, trims, passes_lsr, passes_core, ByPass, IsDecided}
 use Rattle.sr_trim.specs.Lines.{LoadsFiles}
 use Rattle.sr_trim.specs.Passing.{PassesTo}
-use Rattle.sr_trim.specs.Finding.{Finds, HasDecidedCause}
+use Rattle.sr_trim.specs.Finding.{Finds, HasDecidedCause, ReadsTexts, FindsBetween}
 
 module _ (lim : LimitValues) (s : TrimSaid) (old mid : Outside) where
   -- it ended before anything was written
@@ -70,3 +70,25 @@ found_pass lim s old mid st new o k slots formula proof loads (inr p) = inr (rec
   counts = p.3;
   cause = cause_of lim s st.formula st.done old mid p.0 p.1;
 })
+
+-- reading from one outside ended before anything was written to another
+pub between_stop : (lim : LimitValues) (s : TrimSaid) (from_old from_new old : Outside) (o : Outcome) (k : Counts) → ReadsTexts s from_old from_new → HasReadCause from_old from_new o
+    → (o ≡ outcome.NoMemory) ⊎ ((formula proof : Contents) → Agrees (from_new.slot 0) formula → Agrees (from_new.slot 1) proof → IsDecided lim s formula proof (stops o) from_new.begun)
+    → FindsBetween lim s from_old from_new old old o k
+between_stop lim s from_old from_new old o k reads cause (inl e) = (reads, inl (e, refl))
+between_stop lim s from_old from_new old o k reads cause (inr by) = (reads, inr (record { decision = stops o; decided = by; writes = (refl, refl); counts = tt; cause = cause }))
+
+-- what the pass comes to was written to the other
+pub between_pass : (lim : LimitValues) (s : TrimSaid) (from_old from_new : Outside) (st : LoaderState) (old new : Outside) (o : Outcome) (k : Counts) → ReadsTexts s from_old from_new
+    → LoadsFiles lim s from_new (Ok st) → PassesTo lim s st.formula st.done old new o k → FindsBetween lim s from_old from_new old new o k
+between_pass lim s from_old from_new st old new o k reads loads (inl e) = (reads, inl (e.1, e.0))
+between_pass lim s from_old from_new st old new o k reads loads (inr p) = (
+  reads,
+  inr (record {
+    decision = p.0;
+    decided = loads.1 p.0 p.1;
+    writes = p.2;
+    counts = p.3;
+    cause = cause_of lim s st.formula st.done from_old from_new p.0 p.1;
+  }),
+)

@@ -43,3 +43,21 @@ pub record RanOut (s : TrimSaid) (old new : Outside) (o : Outcome) : Type 0 wher
 
 abbrev pub Finds : LimitValues → TrimSaid → Outside → Outside → Outcome → Counts → Type 0
 Finds lim s old new o k = RanOut s old new o ⊎ Trims lim s old new o k
+
+-- two files were read; what is known of them is what their slots give
+pub record ReadsTexts (s : TrimSaid) (old new : Outside) : Type 0 where
+  pub reads : ReadsFiles old new
+  pub formula : GivesFile 0 s.formula old new
+  pub proof : 2 ≤ new.begun → GivesFile 1 s.proof old new
+
+-- what they come to was decided, and then written to another outside
+pub record TrimsBetween (lim : LimitValues) (s : TrimSaid) (from_old from_new old new : Outside) (o : Outcome) (k : Counts) : Type 0 where
+  pub decision : Decision
+  pub decided : (formula proof : Contents) → Agrees (from_new.slot 0) formula → Agrees (from_new.slot 1) proof → IsDecided lim s formula proof decision from_new.begun
+  pub writes : Writes s decision old new o
+  pub counts : AreCounts decision k
+  pub cause : HasDecidedCause from_old from_new decision
+
+-- or memory ran out, and nothing was written
+abbrev pub FindsBetween : LimitValues → TrimSaid → Outside → Outside → Outside → Outside → Outcome → Counts → Type 0
+FindsBetween lim s from_old from_new old new o k = ReadsTexts s from_old from_new × (((o ≡ outcome.NoMemory) × (new ≡ old)) ⊎ TrimsBetween lim s from_old from_new old new o k)

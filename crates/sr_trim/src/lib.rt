@@ -9,5 +9,5 @@ mod trim;
 mod words;
 mod writing;
 
-pub use trim::{Trimmed, trim_files};
+pub use trim::{Trimmed, trim_between, trim_files};
 pub use words::TrimWords;

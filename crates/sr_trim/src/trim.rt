@@ -1,7 +1,7 @@
 // `trim` over files.
-ghost use Rattle.std.specs.Prelude.{◌≡◌};
+ghost use Rattle.std.specs.Prelude.{◌≡◌, ◌≤◌};
 ghost use Rattle.sr_trim.specs.Said.{trim_said};
-ghost use Rattle.sr_trim.specs.Finding.{Finds};
+ghost use Rattle.sr_trim.specs.Finding.{Finds, FindsBetween};
 
 use crate::passing::pass;
 use crate::reading::load_files;
@@ -53,4 +53,24 @@ pub fn trim_files<D: Desk>(
         Err(outcome) => return without_counts(outcome),
     };
     pass(alloc, limits, words, loader, desk)
+}
+
+/// Reads the formula and the proof from one desk, and writes the proof and the core that are needed of them to another, where
+/// these are asked for.
+pub fn trim_between<S: Desk, D: Desk>(
+    alloc: Global,
+    limits: &Limits,
+    words: &TrimWords<'_>,
+    from: &mut S,
+    desk: &mut D,
+) -> Trimmed
+    requires none { (S.outside from.old).begun ≡ 0 }
+    requires begun { (D.outside desk.old).begun ≤ 6 }
+    ensures { FindsBetween limits.now (trim_said words.now) (S.outside from.old) (S.outside from.new)
+        (D.outside desk.old) (D.outside desk.new) result.outcome result.counts }
+{
+    match load_files(alloc, limits, words, from) {
+        Ok(loader) => pass(alloc, limits, words, loader, desk),
+        Err(outcome) => without_counts(outcome),
+    }
 }
