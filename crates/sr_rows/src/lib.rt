@@ -6,7 +6,11 @@ mod binary;
 #[cfg(test)]
 mod case;
 #[cfg(test)]
+mod demos;
+#[cfg(test)]
 mod formulas;
+#[cfg(test)]
+mod generator;
 #[cfg(test)]
 mod hints;
 #[cfg(test)]
@@ -20,9 +24,17 @@ mod outside;
 #[cfg(test)]
 mod plain;
 #[cfg(test)]
+mod random;
+#[cfg(test)]
+mod reference;
+#[cfg(test)]
 mod strict;
 #[cfg(test)]
+mod trimmed;
+#[cfg(test)]
 mod trims;
+#[cfg(test)]
+mod trims_faults;
 #[cfg(test)]
 mod words;
 #[cfg(test)]
