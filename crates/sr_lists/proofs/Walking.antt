@@ -78,23 +78,23 @@ keys_are : (s : Stacked) (walked : Option ℕ) (next hole : ℕ) → length (lis
 keys_are s None next hole = length-map s.stacks (held_on s.cells)
 keys_are s (Some k) next hole = length-set (map (held_on s.cells) s.stacks) k (held_on s.cells (without hole (before next (stack_at s k)))) ∙ length-map s.stacks (held_on s.cells)
 
-open_none : open_at 0 ≡ 0
+pub open_none : open_at 0 ≡ 0
 open_none = refl
 
-open_some : (hole : ℕ) → 0 < hole → open_at hole ≡ 1
+pub open_some : (hole : ℕ) → 0 < hole → open_at hole ≡ 1
 open_some hole lt = ap (λ (b : Bool). cond b 0 1) (ne_eqb hole 0 (λ e. omega (arith, lt, e)))
 
--- the count is that of the entries
+-- each place but the hole has an entry
 count_with : (hole : ℕ) (qs : List ℕ) → count_on 0 qs ≡ 0 → (0 < hole → 0 < count_on hole qs) → length (without hole qs) + open_at hole ≡ length qs
 count_with hole qs z h = by_eq hole 0
     (λ e. rw e (omega (arith, open_none, ap length (without_none 0 qs z))))
     (λ ne. omega (arith, open_some hole (omega (arith, ne)), length_without hole qs (h (omega (arith, ne)))))
 
-entries_count : (s : Stacked) (walked : Option ℕ) (next hole count : ℕ) → AreApart s → IsAlong s walked next hole → places_of s ≡ count + open_at hole → sum_by length (lists_in s walked next hole) + length (ahead_in s walked next) ≡ count
-entries_count s None next hole count a along places =
+entries_held : (s : Stacked) (walked : Option ℕ) (next hole held : ℕ) → AreApart s → IsAlong s walked next hole → places_of s ≡ held → sum_by length (lists_in s walked next hole) + length (ahead_in s walked next) + open_at hole ≡ held
+entries_held s None next hole held a along places =
     let z : open_at hole ≡ 0 = ap open_at along.1 in
     omega (arith, places, z, sum_held s.cells s.stacks (λ q lt. (a.within q lt).1))
-entries_count s (Some k) next hole count a along places =
+entries_held s (Some k) next hole held a along places =
     let ps : List ℕ = stack_at s k in
     let shows : List ℕ = without hole (before next ps) in
     let lt : k < length (map (held_on s.cells) s.stacks) = omega (arith, along.known, length-map s.stacks (held_on s.cells)) in
@@ -105,8 +105,8 @@ entries_count s (Some k) next hole count a along places =
     let holes : length shows + open_at hole ≡ length (before next ps) = count_with hole (before next ps) (omega (arith, zero_off s k a, count_parts 0 next ps)) along.behind in
     omega (arith, places, was, all, behind, ahead, holes, length_parts next ps, sum_by-set (λ (x : List Watch). length x) (map (held_on s.cells) s.stacks) k (held_on s.cells shows) [] lt, sum_held s.cells s.stacks (λ q there. (a.within q there).1))
 
-pub entries_are : (s : Stacked) (walked : Option ℕ) (next hole count room : ℕ) → IsWalked s walked next hole count room → entries (seen s walked next hole room) ≡ count
-entries_are s walked next hole count room h = entries_count s walked next hole count h.apart h.along h.places
+pub entries_are : (s : Stacked) (walked : Option ℕ) (next hole held room : ℕ) → IsWalked s walked next hole held room → entries (seen s walked next hole room) + open_at hole ≡ held
+entries_are s walked next hole held room h = entries_held s walked next hole held h.apart h.along h.places
 
 same_of : (a b : List Watch) → a ≡ b → AreSame a b
 same_of a b e = λ t. ap (count_by t) e
@@ -165,14 +165,18 @@ pub open_here : (s : Stacked) (walked : Option ℕ) (next hole : ℕ) → IsAlon
 open_here s None next hole a = a.1
 open_here s (Some k) next hole a = (a.known, λ lt. omega (arith, a.behind lt, count_parts hole next (stack_at s k)))
 
-pub filled_walked : (old new : Stacked) (walked : Option ℕ) (next hole count room : ℕ) → IsWalked old walked next hole count room → IsFilled old new walked next hole → IsWalked new walked next 0 count room
-filled_walked old new walked next hole count room h f = record {
+pub filled_walked : (old new : Stacked) (walked : Option ℕ) (next hole held left room : ℕ) → IsWalked old walked next hole held room → IsFilled old new walked next hole → left + open_at hole ≡ held → IsWalked new walked next 0 left room
+filled_walked old new walked next hole held left room h f e = record {
   apart = f.apart;
   along = f.along;
-  places = omega (arith, open_none, f.places, h.places);
-  fits = h.fits;
+  places = omega (arith, e, f.places, h.places);
+  fits = omega (arith, open_none, e, h.fits);
   within = omega (arith, f.room, h.within);
+  limit = h.limit;
 }
+
+pub hole_held : (s : Stacked) (walked : Option ℕ) (next hole held room : ℕ) → IsWalked s walked next hole held room → 0 < hole → 0 < held
+hole_held s walked next hole held room h some = omega (arith, open_some hole some, entries_are s walked next hole held room h)
 
 -- a walk begins
 first_before : (ps : List ℕ) → before (first_of ps) ps ≡ []
@@ -187,17 +191,18 @@ first_there : (ps : List ℕ) → 0 < first_of ps → 0 < count_on (first_of ps)
 first_there [] lt = absurd (omega (arith, lt))
 first_there (p ∷ ps) lt = omega (arith, count_same p p ps refl)
 
-pub begun_walked : (s : Stacked) (next hole count room key : ℕ) → IsWalked s None next hole count room → key < length s.stacks → IsWalked s (Some key) (first_of (stack_at s key)) hole count room
-begun_walked s next hole count room key h lt = record {
+pub begun_walked : (s : Stacked) (next hole held room key : ℕ) → IsWalked s None next hole held room → key < length s.stacks → IsWalked s (Some key) (first_of (stack_at s key)) hole held room
+begun_walked s next hole held room key h lt = record {
   apart = h.apart;
   along = record { known = lt; there = first_there (stack_at s key); behind = λ some. absurd (omega (arith, some, h.along.1)) };
   places = h.places;
   fits = h.fits;
   within = h.within;
+  limit = h.limit;
 }
 
-pub begun_is : (s : Stacked) (next hole count room key : ℕ) → IsWalked s None next hole count room → key < length s.stacks → IsBegun (seen s None next hole room) (seen s (Some key) (first_of (stack_at s key)) hole room) key
-begun_is s next hole count room key h lt =
+pub begun_is : (s : Stacked) (next hole held room key : ℕ) → IsWalked s None next hole held room → key < length s.stacks → IsBegun (seen s None next hole room) (seen s (Some key) (first_of (stack_at s key)) hole room) key
+begun_is s next hole held room key h lt =
     let first : ℕ = first_of (stack_at s key) in
     record {
       keys = keys_are s (Some key) first hole ∙ sym (keys_are s None next hole);
@@ -206,18 +211,15 @@ begun_is s next hole count room key h lt =
       ahead = same_of (ahead_in s (Some key) first) (get_or (lists_in s None next hole) key []) (ap (held_on s.cells) (first_since (stack_at s key)) ∙ sym (list_plain s key));
       walked = refl;
       room = refl;
-      entries = entries_are s (Some key) first hole count room (begun_walked s next hole count room key h lt) ∙ sym (entries_are s None next hole count room h);
+      entries = omega (arith, entries_are s (Some key) first hole held room (begun_walked s next hole held room key h lt), entries_are s None next hole held room h);
     }
 
 -- a watch is taken, where there is no hole
-pub taken_walked : (s : Stacked) (k next older count room : ℕ) → IsWalked s (Some k) next 0 count room → 0 < next → older ≡ first_of (drop 1 (since next (stack_at s k))) → IsWalked s (Some k) older next (count - 1) room
-taken_walked s k next older count room h some e =
+pub taken_walked : (s : Stacked) (k next older held room : ℕ) → IsWalked s (Some k) next 0 held room → 0 < next → older ≡ first_of (drop 1 (since next (stack_at s k))) → IsWalked s (Some k) older next held room
+taken_walked s k next older held room h some e =
     let ps : List ℕ = stack_at s k in
     let there : 0 < count_on next ps = h.along.there some in
     let step = step_before ps next there (zero_off s k h.apart) (λ q. once_on s k q h.apart) in
-    let counted : length (before next ps) + length (since next ps) ≡ length ps = length_parts next ps in
-    let len : length (since next ps) ≡ suc (length (drop 1 (since next ps))) = ap length (since_begins next ps there) in
-    let stack_le : length ps ≤ places_of s = length_at s.stacks k in
     record {
       apart = h.apart;
       along = record {
@@ -230,18 +232,14 @@ taken_walked s k next older count room h some e =
         behind = λ lt. let b : before older ps ≡ before next ps ++ next ∷ [] = ap (λ (x : ℕ). before x ps) e ∙ step.0 in
             subst (λ (x : List ℕ). 0 < count_on next x) (sym b) (omega (arith, sum_by-append (λ (x : ℕ). cond (eqb next x) 1 0) (before next ps) (next ∷ []), count_same next next [] refl));
       };
-      places = omega (arith, h.places, open_none, open_some next some, counted, len, stack_le);
-      fits = omega (arith, h.fits);
+      places = h.places;
+      fits = omega (arith, open_none, h.fits);
       within = h.within;
+      limit = h.limit;
     }
-  where
-    length_at : (ss : List (List ℕ)) (k : ℕ) → length (get_or ss k []) ≤ sum_by length ss
-    length_at [] k = omega arith
-    length_at (ps ∷ ss) zero = omega (arith, sum_by-cons (λ (x : List ℕ). length x) ps ss)
-    length_at (ps ∷ ss) (suc k) = omega (arith, sum_by-cons (λ (x : List ℕ). length x) ps ss, length_at ss k)
 
-pub taken_is : (s : Stacked) (k next older count room : ℕ) (w : Watch) → IsWalked s (Some k) next 0 count room → 0 < next → older ≡ first_of (drop 1 (since next (stack_at s k))) → held_at s.cells next ≡ w ∷ [] → IsTaken (seen s (Some k) next 0 room) (seen s (Some k) older next room) w
-taken_is s k next older count room w h some e holds =
+pub taken_is : (s : Stacked) (k next older held room : ℕ) (w : Watch) → IsWalked s (Some k) next 0 held room → 0 < next → older ≡ first_of (drop 1 (since next (stack_at s k))) → held_at s.cells next ≡ w ∷ [] → IsTaken (seen s (Some k) next 0 room) (seen s (Some k) older next room) w
+taken_is s k next older held room w h some e holds =
     let ps : List ℕ = stack_at s k in
     let there : 0 < count_on next ps = h.along.there some in
     let step = step_before ps next there (zero_off s k h.apart) (λ q. once_on s k q h.apart) in
@@ -254,9 +252,9 @@ taken_is s k next older count room w h some e holds =
     let ahead : ahead_in s (Some k) next ≡ w ∷ ahead_in s (Some k) older =
     ap (held_on s.cells) (since_begins next ps there) ∙ ap (λ (x : List Watch). x ++ held_on s.cells (drop 1 (since next ps))) holds ∙ ap (λ (x : List ℕ). w ∷ held_on s.cells x) (sym a)
     in
-    let more : IsWalked s (Some k) older next (count - 1) room = taken_walked s k next older count room h some e in
-    let old_count : entries (seen s (Some k) next 0 room) ≡ count = entries_are s (Some k) next 0 count room h in
-    let new_count : entries (seen s (Some k) older next room) ≡ count - 1 = entries_are s (Some k) older next (count - 1) room more in
+    let more : IsWalked s (Some k) older next held room = taken_walked s k next older held room h some e in
+    let old_entries : entries (seen s (Some k) next 0 room) + open_at 0 ≡ held = entries_are s (Some k) next 0 held room h in
+    let new_entries : entries (seen s (Some k) older next room) + open_at next ≡ held = entries_are s (Some k) older next held room more in
     let len : length (ahead_in s (Some k) next) ≡ suc (length (ahead_in s (Some k) older)) = ap length ahead in
     record {
       keys = keys_are s (Some k) older next ∙ sym (keys_are s (Some k) next 0);
@@ -267,15 +265,15 @@ taken_is s k next older count room w h some e holds =
       shorter = omega (arith, len);
       walked = refl;
       room = refl;
-      free = omega (arith, old_count, new_count, len, h.fits);
-      entries = omega (arith, old_count, new_count, len);
+      free = omega (arith, open_none, open_some next some, new_entries, h.fits);
+      entries = omega (arith, open_none, open_some next some, old_entries, new_entries);
     }
 
 -- the calls of a walk first fill the hole
-pub filled_taken : (old new : Stacked) (walked : Option ℕ) (next hole count room : ℕ) (f : Family) (w : Watch) → IsWalked old walked next hole count room → IsFilled old new walked next hole → IsTaken (seen new walked next 0 room) f w → IsTaken (seen old walked next hole room) f w
-filled_taken old new walked next hole count room f w h fill t =
-    let old_count : entries (seen old walked next hole room) ≡ count = entries_are old walked next hole count room h in
-    let new_count : entries (seen new walked next 0 room) ≡ count = entries_are new walked next 0 count room (filled_walked old new walked next hole count room h fill) in
+pub filled_taken : (old new : Stacked) (walked : Option ℕ) (next hole held left room : ℕ) (f : Family) (w : Watch) → IsWalked old walked next hole held room → IsFilled old new walked next hole → left + open_at hole ≡ held → IsTaken (seen new walked next 0 room) f w → IsTaken (seen old walked next hole room) f w
+filled_taken old new walked next hole held left room f w h fill e t =
+    let old_entries : entries (seen old walked next hole room) + open_at hole ≡ held = entries_are old walked next hole held room h in
+    let new_entries : entries (seen new walked next 0 room) + open_at 0 ≡ left = entries_are new walked next 0 left room (filled_walked old new walked next hole held left room h fill e) in
     record {
       keys = t.keys ∙ keys_are new walked next 0 ∙ fill.keys ∙ sym (keys_are old walked next hole);
       lists = λ k p. t.lists k p ∙ fill.lists k p;
@@ -284,16 +282,16 @@ filled_taken old new walked next hole count room f w h fill t =
       walked = t.walked;
       room = t.room;
       free = t.free;
-      entries = omega (arith, t.entries, old_count, new_count);
+      entries = omega (arith, open_none, e, t.entries, old_entries, new_entries);
     }
 
-pub ended_walked : (s : Stacked) (walked : Option ℕ) (next count room : ℕ) → IsWalked s walked next 0 count room → IsWalked s None 0 0 count room
-ended_walked s walked next count room h = record { apart = h.apart; along = (refl, refl); places = h.places; fits = h.fits; within = h.within }
+pub ended_walked : (s : Stacked) (walked : Option ℕ) (next held room : ℕ) → IsWalked s walked next 0 held room → IsWalked s None 0 0 held room
+ended_walked s walked next held room h = record { apart = h.apart; along = (refl, refl); places = h.places; fits = h.fits; within = h.within; limit = h.limit }
 
-pub ended_is : (old new : Stacked) (k next hole count room : ℕ) → IsWalked old (Some k) next hole count room → IsFilled old new (Some k) next hole → IsEnded (seen old (Some k) next hole room) (seen new None 0 0 room) k
-ended_is old new k next hole count room h fill =
+pub ended_is : (old new : Stacked) (k next hole held left room : ℕ) → IsWalked old (Some k) next hole held room → IsFilled old new (Some k) next hole → left + open_at hole ≡ held → IsEnded (seen old (Some k) next hole room) (seen new None 0 0 room) k
+ended_is old new k next hole held left room h fill e =
     let ps : List ℕ = stack_at new k in
-    let mid : IsWalked new (Some k) next 0 count room = filled_walked old new (Some k) next hole count room h fill in
+    let mid : IsWalked new (Some k) next 0 left room = filled_walked old new (Some k) next hole held left room h fill e in
     let whole : get_or (lists_in new None 0 0) k [] ≡ held_on new.cells (before next ps) ++ held_on new.cells (since next ps) =
     list_plain new k ∙ ap (held_on new.cells) (sym (before_since next ps)) ∙ held_append new.cells (before next ps) (since next ps)
     in
@@ -309,21 +307,22 @@ ended_is old new k next hole count room h fill =
       ahead = refl;
       walked = refl;
       room = refl;
-      entries = entries_are new None 0 0 count room (ended_walked new (Some k) next count room mid) ∙ sym (entries_are old (Some k) next hole count room h);
+      entries = omega (arith, open_none, e, entries_are new None 0 0 left room (ended_walked new (Some k) next left room mid), entries_are old (Some k) next hole held room h);
     }
 
 -- a watch goes into the hole
-pub kept_walked : (s : Stacked) (k next hole count room : ℕ) (w : Watch) → IsWalked s (Some k) next hole count room → 0 < hole → count < room → AreApart (record s { cells = set s.cells hole w }) → IsWalked (record s { cells = set s.cells hole w }) (Some k) next 0 (count + 1) room
-kept_walked s k next hole count room w h some free b = record {
+pub kept_walked : (s : Stacked) (k next hole held room : ℕ) (w : Watch) → IsWalked s (Some k) next hole held room → 0 < hole → held < room + open_at hole → AreApart (record s { cells = set s.cells hole w }) → IsWalked (record s { cells = set s.cells hole w }) (Some k) next 0 held room
+kept_walked s k next hole held room w h some free b = record {
   apart = b;
   along = record { known = h.along.known; there = h.along.there; behind = λ lt. absurd (omega (arith, lt)) };
-  places = omega (arith, h.places, open_none, open_some hole some);
-  fits = omega (arith, free);
+  places = h.places;
+  fits = omega (arith, open_none, open_some hole some, free);
   within = h.within;
+  limit = h.limit;
 }
 
-pub kept_is : (s : Stacked) (k next hole count room : ℕ) (w : Watch) → IsWalked s (Some k) next hole count room → 0 < hole → count < room → AreApart (record s { cells = set s.cells hole w }) → IsPushed (seen s (Some k) next hole room) (seen (record s { cells = set s.cells hole w }) (Some k) next 0 room) k w
-kept_is s k next hole count room w h some free b =
+pub kept_is : (s : Stacked) (k next hole held room : ℕ) (w : Watch) → IsWalked s (Some k) next hole held room → 0 < hole → held < room + open_at hole → AreApart (record s { cells = set s.cells hole w }) → IsPushed (seen s (Some k) next hole room) (seen (record s { cells = set s.cells hole w }) (Some k) next 0 room) k w
+kept_is s k next hole held room w h some free b =
     let new : Stacked = record s { cells = set s.cells hole w } in
     let ps : List ℕ = stack_at s k in
     let behind : 0 < count_on hole (before next ps) = h.along.behind some in
@@ -344,7 +343,7 @@ kept_is s k next hole count room w h some free b =
       ahead = same_of (ahead_in new (Some k) next) (ahead_in s (Some k) next) (held_elsewhere s.cells hole w (since next ps) (omega (arith, behind, once, parts)));
       walked = refl;
       room = refl;
-      entries = omega (arith, entries_are s (Some k) next hole count room h, entries_are new (Some k) next 0 (count + 1) room (kept_walked s k next hole count room w h some free b));
+      entries = omega (arith, open_none, open_some hole some, entries_are s (Some k) next hole held room h, entries_are new (Some k) next 0 held room (kept_walked s k next hole held room w h some free b));
     }
 
 -- a watch is pushed on a place that was on no stack
@@ -427,8 +426,8 @@ grown_ahead old new (Some k) next hole key w a g =
 grown_same : (old new : Stacked) (walked : Option ℕ) (next hole key j : ℕ) (w : Watch) → IsGrown old new key w → held_on new.cells (shown walked next hole j (stack_at old j)) ≡ held_on old.cells (shown walked next hole j (stack_at old j))
 grown_same old new walked next hole key j w g = g.same j (shown walked next hole j (stack_at old j)) (λ q. shown_le walked next hole j q (stack_at old j))
 
-pub pushed_walked : (old new : Stacked) (walked : Option ℕ) (next hole count room key : ℕ) (w : Watch) → IsWalked old walked next hole count room → AreApart new → key < length old.stacks → count < room → IsAdded old new key w → IsWalked new walked next hole (count + 1) room
-pushed_walked old new walked next hole count room key w h b lt free added =
+pub pushed_walked : (old new : Stacked) (walked : Option ℕ) (next hole held room key : ℕ) (w : Watch) → IsWalked old walked next hole held room → AreApart new → key < length old.stacks → held < room + open_at hole → IsAdded old new key w → IsWalked new walked next hole (held + 1) room
+pushed_walked old new walked next hole held room key w h b lt free added =
     let g : IsGrown old new key w = grown_from old new key w h.apart b lt added in
     record {
       apart = b;
@@ -436,13 +435,14 @@ pushed_walked old new walked next hole count room key w h b lt free added =
       places = omega (arith, h.places, g.places);
       fits = omega (arith, free);
       within = omega (arith, h.within, g.room);
+      limit = h.limit;
     }
 
-pub pushed_is : (old new : Stacked) (walked : Option ℕ) (next hole count room key : ℕ) (w : Watch) → IsWalked old walked next hole count room → AreApart new → key < length old.stacks → count < room → IsAdded old new key w → IsPushed (seen old walked next hole room) (seen new walked next hole room) key w
-pushed_is old new walked next hole count room key w h b lt free added =
+pub pushed_is : (old new : Stacked) (walked : Option ℕ) (next hole held room key : ℕ) (w : Watch) → IsWalked old walked next hole held room → AreApart new → key < length old.stacks → held < room + open_at hole → IsAdded old new key w → IsPushed (seen old walked next hole room) (seen new walked next hole room) key w
+pushed_is old new walked next hole held room key w h b lt free added =
     let g : IsGrown old new key w = grown_from old new key w h.apart b lt added in
     let ne = places_off old walked next hole g.place h.along g.off g.some in
-    let more : IsWalked new walked next hole (count + 1) room = pushed_walked old new walked next hole count room key w h b lt free added in
+    let more : IsWalked new walked next hole (held + 1) room = pushed_walked old new walked next hole held room key w h b lt free added in
     let stays : (j : ℕ) → held_on new.cells (shown walked next hole j (stack_at old j)) ≡ get_or (lists_in old walked next hole) j [] = λ j. grown_same old new walked next hole key j w g ∙ sym (list_shown old walked next hole j h.along) in
     let here : get_or (lists_in new walked next hole) key [] ≡ w ∷ get_or (lists_in old walked next hole) key [] =
     list_shown new walked next hole key more.along ∙ ap (λ (x : List ℕ). held_on new.cells (shown walked next hole key x)) g.here ∙ ap (held_on new.cells) (shown_add walked next hole key g.place (stack_at old key) ne.0 ne.1) ∙ ap (λ (x : List Watch). x ++ held_on new.cells (shown walked next hole key (stack_at old key))) g.holds ∙ ap (λ (x : List Watch). w ∷ x) (stays key)
@@ -454,7 +454,7 @@ pushed_is old new walked next hole count room key w h b lt free added =
       ahead = same_of (ahead_in new walked next) (ahead_in old walked next) (grown_ahead old new walked next hole key w h.along g);
       walked = refl;
       room = refl;
-      entries = omega (arith, entries_are old walked next hole count room h, entries_are new walked next hole (count + 1) room more);
+      entries = omega (arith, entries_are old walked next hole held room h, entries_are new walked next hole (held + 1) room more);
     }
 
 -- more keys
@@ -500,18 +500,19 @@ more_ahead : (s : Stacked) (walked : Option ℕ) (next n : ℕ) → ahead_in (mo
 more_ahead s None next n = refl
 more_ahead s (Some k) next n = ap (λ (x : List ℕ). held_on s.cells (since next x)) (more_at s.stacks (n - length s.stacks) k)
 
-pub more_walked : (s : Stacked) (walked : Option ℕ) (next hole count room n : ℕ) → IsWalked s walked next hole count room → AreApart (more_keys s n) → IsWalked (more_keys s n) walked next hole count room
-more_walked s walked next hole count room n h b = record {
+pub more_walked : (s : Stacked) (walked : Option ℕ) (next hole held room n : ℕ) → IsWalked s walked next hole held room → AreApart (more_keys s n) → IsWalked (more_keys s n) walked next hole held room
+more_walked s walked next hole held room n h b = record {
   apart = b;
   along = more_along s walked next hole n h.along;
   places = omega (arith, h.places, sum_by-append (λ (x : List ℕ). length x) s.stacks (replicate (n - length s.stacks) []), more_places (n - length s.stacks));
   fits = h.fits;
   within = h.within;
+  limit = h.limit;
 }
 
-pub more_is : (s : Stacked) (walked : Option ℕ) (next hole count room n : ℕ) → IsWalked s walked next hole count room → AreApart (more_keys s n) → HasKeys (seen s walked next hole room) (seen (more_keys s n) walked next hole room) n
-more_is s walked next hole count room n h b =
-    let more : IsWalked (more_keys s n) walked next hole count room = more_walked s walked next hole count room n h b in
+pub more_is : (s : Stacked) (walked : Option ℕ) (next hole held room n : ℕ) → IsWalked s walked next hole held room → AreApart (more_keys s n) → HasKeys (seen s walked next hole room) (seen (more_keys s n) walked next hole room) n
+more_is s walked next hole held room n h b =
+    let more : IsWalked (more_keys s n) walked next hole held room = more_walked s walked next hole held room n h b in
     record {
       keys = omega (arith, keys_are s walked next hole, keys_are (more_keys s n) walked next hole, more_known s n);
       lists = λ j. same_of (get_or (lists_in (more_keys s n) walked next hole) j []) (get_or (lists_in s walked next hole) j [])
@@ -519,7 +520,7 @@ more_is s walked next hole count room n h b =
       ahead = same_of (ahead_in (more_keys s n) walked next) (ahead_in s walked next) (more_ahead s walked next n);
       walked = refl;
       room = refl;
-      entries = entries_are (more_keys s n) walked next hole count room more ∙ sym (entries_are s walked next hole count room h);
+      entries = omega (arith, entries_are (more_keys s n) walked next hole held room more, entries_are s walked next hole held room h);
     }
 
 -- the calls, whichever list is walked
@@ -546,46 +547,55 @@ older_is : (s : Stacked) (k next older : ℕ) → 0 < count_on next (stack_at s 
 older_is s k next older there h =
     h k (before next (stack_at s k)) (drop 1 (since next (stack_at s k))) (sym (ap (λ (x : List ℕ). before next (stack_at s k) ++ x) (sym (since_begins next (stack_at s k) there)) ∙ before_since next (stack_at s k)))
 
-pub next_walked : (s : Stacked) (walked : Option ℕ) (next older count room : ℕ) → IsWalked s walked next 0 count room → 0 < next → ((key : ℕ) (front rest : List ℕ) → stack_at s key ≡ front ++ next ∷ rest → older ≡ first_of rest) → IsWalked s walked older next (count - 1) room
-next_walked s None next older count room h some older_of = absurd (omega (arith, some, h.along.0))
-next_walked s (Some k) next older count room h some older_of = taken_walked s k next older count room h some (older_is s k next older (h.along.there some) older_of)
+pub next_walked : (s : Stacked) (walked : Option ℕ) (next older held room : ℕ) → IsWalked s walked next 0 held room → 0 < next → ((key : ℕ) (front rest : List ℕ) → stack_at s key ≡ front ++ next ∷ rest → older ≡ first_of rest) → IsWalked s walked older next held room
+next_walked s None next older held room h some older_of = absurd (omega (arith, some, h.along.0))
+next_walked s (Some k) next older held room h some older_of = taken_walked s k next older held room h some (older_is s k next older (h.along.there some) older_of)
 
-next_taken : (s : Stacked) (walked : Option ℕ) (next older count room : ℕ) (w : Watch) → IsWalked s walked next 0 count room → 0 < next → ((key : ℕ) (front rest : List ℕ) → stack_at s key ≡ front ++ next ∷ rest → older ≡ first_of rest) → held_at s.cells next ≡ w ∷ [] → IsTaken (seen s walked next 0 room) (seen s walked older next room) w
-next_taken s None next older count room w h some older_of holds = absurd (omega (arith, some, h.along.0))
-next_taken s (Some k) next older count room w h some older_of holds = taken_is s k next older count room w h some (older_is s k next older (h.along.there some) older_of) holds
+next_taken : (s : Stacked) (walked : Option ℕ) (next older held room : ℕ) (w : Watch) → IsWalked s walked next 0 held room → 0 < next → ((key : ℕ) (front rest : List ℕ) → stack_at s key ≡ front ++ next ∷ rest → older ≡ first_of rest) → held_at s.cells next ≡ w ∷ [] → IsTaken (seen s walked next 0 room) (seen s walked older next room) w
+next_taken s None next older held room w h some older_of holds = absurd (omega (arith, some, h.along.0))
+next_taken s (Some k) next older held room w h some older_of holds = taken_is s k next older held room w h some (older_is s k next older (h.along.there some) older_of) holds
 
-pub next_is : (old new : Stacked) (walked : Option ℕ) (next hole older count room : ℕ) (w : Watch) → IsWalked old walked next hole count room → IsFilled old new walked next hole → 0 < next → ((key : ℕ) (front rest : List ℕ) → stack_at new key ≡ front ++ next ∷ rest → older ≡ first_of rest) → held_at new.cells next ≡ w ∷ [] → IsTaken (seen old walked next hole room) (seen new walked older next room) w
-next_is old new walked next hole older count room w h fill some older_of holds =
-    filled_taken old new walked next hole count room (seen new walked older next room) w h fill (next_taken new walked next older count room w (filled_walked old new walked next hole count room h fill) some older_of holds)
+pub next_is : (old new : Stacked) (walked : Option ℕ) (next hole older held left room : ℕ) (w : Watch) → IsWalked old walked next hole held room → IsFilled old new walked next hole → left + open_at hole ≡ held → 0 < next → ((key : ℕ) (front rest : List ℕ) → stack_at new key ≡ front ++ next ∷ rest → older ≡ first_of rest) → held_at new.cells next ≡ w ∷ [] → IsTaken (seen old walked next hole room) (seen new walked older next room) w
+next_is old new walked next hole older held left room w h fill e some older_of holds =
+    filled_taken old new walked next hole held left room (seen new walked older next room) w h fill e (next_taken new walked next older left room w (filled_walked old new walked next hole held left room h fill e) some older_of holds)
 
-pub end_is : (old new : Stacked) (walked : Option ℕ) (next hole count room : ℕ) → IsWalked old walked next hole count room → IsFilled old new walked next hole → IfSome walked (λ key. IsEnded (seen old walked next hole room) (seen new None 0 0 room) key)
-end_is old new None next hole count room h fill = tt
-end_is old new (Some k) next hole count room h fill = ended_is old new k next hole count room h fill
+pub end_is : (old new : Stacked) (walked : Option ℕ) (next hole held left room : ℕ) → IsWalked old walked next hole held room → IsFilled old new walked next hole → left + open_at hole ≡ held → IfSome walked (λ key. IsEnded (seen old walked next hole room) (seen new None 0 0 room) key)
+end_is old new None next hole held left room h fill e = tt
+end_is old new (Some k) next hole held left room h fill e = ended_is old new k next hole held left room h fill e
 
-pub keep_walked : (s : Stacked) (walked : Option ℕ) (next hole count room : ℕ) (w : Watch) → IsWalked s walked next hole count room → 0 < hole → count < room → AreApart (record s { cells = set s.cells hole w }) → IsWalked (record s { cells = set s.cells hole w }) walked next 0 (count + 1) room
-keep_walked s None next hole count room w h some free b = absurd (omega (arith, some, h.along.1))
-keep_walked s (Some k) next hole count room w h some free b = kept_walked s k next hole count room w h some free b
+pub keep_walked : (s : Stacked) (walked : Option ℕ) (next hole held room : ℕ) (w : Watch) → IsWalked s walked next hole held room → 0 < hole → held < room + open_at hole → AreApart (record s { cells = set s.cells hole w }) → IsWalked (record s { cells = set s.cells hole w }) walked next 0 held room
+keep_walked s None next hole held room w h some free b = absurd (omega (arith, some, h.along.1))
+keep_walked s (Some k) next hole held room w h some free b = kept_walked s k next hole held room w h some free b
 
-pub keep_is : (s : Stacked) (walked : Option ℕ) (next hole count room : ℕ) (w : Watch) → IsWalked s walked next hole count room → 0 < hole → count < room → AreApart (record s { cells = set s.cells hole w }) → IfSome walked (λ key. IsPushed (seen s walked next hole room) (seen (record s { cells = set s.cells hole w }) walked next 0 room) key w)
-keep_is s None next hole count room w h some free b = tt
-keep_is s (Some k) next hole count room w h some free b = kept_is s k next hole count room w h some free b
+pub keep_is : (s : Stacked) (walked : Option ℕ) (next hole held room : ℕ) (w : Watch) → IsWalked s walked next hole held room → 0 < hole → held < room + open_at hole → AreApart (record s { cells = set s.cells hole w }) → IfSome walked (λ key. IsPushed (seen s walked next hole room) (seen (record s { cells = set s.cells hole w }) walked next 0 room) key w)
+keep_is s None next hole held room w h some free b = tt
+keep_is s (Some k) next hole held room w h some free b = kept_is s k next hole held room w h some free b
 
-pub count_is : (s : Stacked) (walked : Option ℕ) (next hole count room : ℕ) (f : Family) → IsWalked s walked next hole count room → seen s walked next hole room ≡ f → entries f ≡ count
-count_is s walked next hole count room f h e = subst (λ (x : Family). entries x ≡ count) e (entries_are s walked next hole count room h)
+pub count_is : (s : Stacked) (walked : Option ℕ) (next hole held room : ℕ) (f : Family) → IsWalked s walked next hole held room → seen s walked next hole room ≡ f → entries f + open_at hole ≡ held
+count_is s walked next hole held room f h e = subst (λ (x : Family). entries x + open_at hole ≡ held) e (entries_are s walked next hole held room h)
+
+pub count_closed : (s : Stacked) (walked : Option ℕ) (next hole held room : ℕ) (f : Family) → IsWalked s walked next hole held room → seen s walked next hole room ≡ f → hole ≡ 0 → held ≡ entries f
+count_closed s walked next hole held room f h e z = omega (arith, open_none, ap open_at z, count_is s walked next hole held room f h e)
+
+pub count_open : (s : Stacked) (walked : Option ℕ) (next hole held room : ℕ) (f : Family) → IsWalked s walked next hole held room → seen s walked next hole room ≡ f → 0 < hole → held ≡ entries f + 1
+count_open s walked next hole held room f h e some = omega (arith, open_some hole some, count_is s walked next hole held room f h e)
+
+pub count_fits : (s : Stacked) (walked : Option ℕ) (next hole held count room : ℕ) (f : Family) → IsWalked s walked next hole held room → seen s walked next hole room ≡ f → count ≡ entries f → count ≤ room
+count_fits s walked next hole held count room f h e is = omega (arith, is, h.fits, count_is s walked next hole held room f h e)
 
 -- what a caller knows of the family, said of the fields
 pub key_is : (s : Stacked) (walked : Option ℕ) (next hole room key : ℕ) (f : Family) → seen s walked next hole room ≡ f → key < length f.lists → key < length s.stacks
 key_is s walked next hole room key f e lt = let n : length (lists_in s walked next hole) ≡ length f.lists = ap (λ (x : Family). length x.lists) e in omega (arith, lt, n, keys_are s walked next hole)
 
-pub free_is : (s : Stacked) (walked : Option ℕ) (next hole count room : ℕ) (f : Family) → IsWalked s walked next hole count room → seen s walked next hole room ≡ f → entries f < f.room → count < room
-free_is s walked next hole count room f h e lt = let r : room ≡ f.room = ap (λ (x : Family). x.room) e in omega (arith, lt, r, count_is s walked next hole count room f h e)
+pub free_is : (s : Stacked) (walked : Option ℕ) (next hole held room : ℕ) (f : Family) → IsWalked s walked next hole held room → seen s walked next hole room ≡ f → entries f < f.room → held < room + open_at hole
+free_is s walked next hole held room f h e lt = let r : room ≡ f.room = ap (λ (x : Family). x.room) e in omega (arith, lt, r, count_is s walked next hole held room f h e)
 
-open_le : (hole : ℕ) → open_at hole ≤ 1
+pub open_le : (hole : ℕ) → open_at hole ≤ 1
 open_le hole = by_eq hole 0 (λ e. omega (arith, open_none, ap open_at e)) (λ ne. omega (arith, open_some hole (omega (arith, ne))))
 
-pub free_place : (s : Stacked) (walked : Option ℕ) (next hole count room : ℕ) → IsWalked s walked next hole count room → count < room → places_of s < s.room
-free_place s walked next hole count room h free = omega (arith, h.places, h.within, open_le hole, free)
+pub free_place : (s : Stacked) (walked : Option ℕ) (next hole held room : ℕ) → IsWalked s walked next hole held room → held < room + open_at hole → places_of s < s.room
+free_place s walked next hole held room h free = omega (arith, h.places, h.within, open_le hole, entries_are s walked next hole held room h, free)
 
-pub begin_is : (s : Stacked) (walked : Option ℕ) (next hole count room key first : ℕ) → IsNone walked → IsWalked s walked next hole count room → key < length s.stacks → first ≡ first_of (stack_at s key) → IsBegun (seen s walked next hole room) (seen s (Some key) first hole room) key
-begin_is s None next hole count room key first idle h lt e = subst (λ (x : ℕ). IsBegun (seen s None next hole room) (seen s (Some key) x hole room) key) (sym e) (begun_is s next hole count room key h lt)
-begin_is s (Some k) next hole count room key first idle h lt e = absurd (true≢false idle)
+pub begin_is : (s : Stacked) (walked : Option ℕ) (next hole held room key first : ℕ) → IsNone walked → IsWalked s walked next hole held room → key < length s.stacks → first ≡ first_of (stack_at s key) → IsBegun (seen s walked next hole room) (seen s (Some key) first hole room) key
+begin_is s None next hole held room key first idle h lt e = subst (λ (x : ℕ). IsBegun (seen s None next hole room) (seen s (Some key) x hole room) key) (sym e) (begun_is s next hole held room key h lt)
+begin_is s (Some k) next hole held room key first idle h lt e = absurd (true≢false idle)

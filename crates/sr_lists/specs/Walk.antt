@@ -1,6 +1,7 @@
 -- A walk in place along a stack: what it hasn't reached, what is behind it, and the hole that it leaves.
 use Rattle.std.specs.Prelude.{ℕ, ◌≡◌, ◌-◌, ◌+◌, ◌<◌, ◌≤◌, Option, Some, None, List, [], ◌∷◌, length, map, drop, set, nat_eq, slice_index_or, if◌then◌else◌}
 use Rattle.sr_lists.specs.declared.blocks.Watch.{Watch}
+use Rattle.sr_lists.specs.declared.lists.TheConstants.{MOST}
 use Rattle.sr_lists.specs.Stacks.{Stacked, stack_at, places_of, count_on, held_at, held_on, first_of, AreApart}
 use Rattle.sr_lists.specs.Family.{Family, AreSame}
 
@@ -46,13 +47,14 @@ IsAlong s (Some k) next hole = IsOn s k next hole
 abbrev pub open_at : ℕ → ℕ
 open_at hole = if nat_eq hole 0 then 0 else 1
 
--- what the lists keep: each place but the hole is counted, and a hole finds room beside all watches
-pub record IsWalked (s : Stacked) (walked : Option ℕ) (next hole count room : ℕ) : Type 0 where
+-- what the lists keep: each place is counted, that of the hole too, and a hole finds room beside all watches
+pub record IsWalked (s : Stacked) (walked : Option ℕ) (next hole held room : ℕ) : Type 0 where
   pub apart : AreApart s
   pub along : IsAlong s walked next hole
-  pub places : places_of s ≡ count + open_at hole
-  pub fits : count ≤ room
+  pub places : places_of s ≡ held
+  pub fits : held ≤ room + open_at hole
   pub within : room ≤ s.room - 1
+  pub limit : room ≤ MOST
 
 -- there is a hole on a stack
 abbrev pub IsOpen : Stacked → Option ℕ → ℕ → Type 0

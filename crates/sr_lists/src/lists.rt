@@ -11,7 +11,7 @@
 ghost use Rattle.std.specs.Prelude.{ℕ, ◌≡◌, ◌+◌, ◌-◌, ◌<◌, ◌≤◌, [], Some, None, false, length, max, IsSome, IsNone, IsTrue, IsOk, ◌↔◌, IfSome, OnOk, OnErr, MatchOption};
 ghost use Rattle.sr_lists.specs.Family.{Family, entries, HasKeys, IsPushed, IsBegun, IsTaken, IsEnded, AreSameLists};
 ghost use Rattle.sr_lists.specs.Stacks.{stack_at, count_on};
-ghost use Rattle.sr_lists.specs.Walk.{IsAlong, IsOpen, IsClosed, IsFilled};
+ghost use Rattle.sr_lists.specs.Walk.{IsAlong, open_at, IsOpen, IsClosed, IsFilled};
 
 use crate::blocks::Watch;
 use crate::stacks::Stacks;
@@ -35,8 +35,8 @@ pub struct Lists {
     next: u32,
     /// The place of the watch that was taken last and not kept; 0 where there is none.
     hole: u32,
-    /// How many watches there are.
-    count: usize,
+    /// How many places are on the stacks, the hole included.
+    held: usize,
     room: usize,
 }
 
@@ -48,7 +48,7 @@ impl Model for Lists {
 
     ghost view = { λ s. seen s.stacks s.walked s.next s.hole s.room };
 
-    ghost invariant = { λ s. IsWalked s.stacks s.walked s.next s.hole s.count s.room };
+    ghost invariant = { λ s. IsWalked s.stacks s.walked s.next s.hole s.held s.room };
 }
 
 impl Lists {
@@ -63,7 +63,7 @@ impl Lists {
             walked: None,
             next: 0,
             hole: 0,
-            count: 0,
+            held: 0,
             room: 0,
         }
     }
@@ -81,7 +81,11 @@ impl Lists {
     pub fn count(&self) -> usize
         ensures { result ≡ entries self.now }
     {
-        self.count
+        if self.hole == 0 {
+            self.held
+        } else {
+            self.held - 1
+        }
     }
 
     /// For how many watches more there is room.
@@ -89,7 +93,7 @@ impl Lists {
     pub fn left(&self) -> usize
         ensures { entries self.now + result ≡ self.now.room }
     {
-        self.room - self.count
+        self.room - self.count()
     }
 
     /// Whether a list is walked.
@@ -119,13 +123,14 @@ impl Lists {
         ensures has_room { entries self.old + more ≤ self.old.room → IsOk result }
         ensures err { OnErr result (self.new.room ≡ self.old.room) }
     {
-        if more <= self.room - self.count {
+        if more <= self.left() {
             return Ok(());
         }
-        if self.count > MOST || more > MOST - self.count {
+        let count = self.count();
+        if count > MOST || more > MOST - count {
             return Err(NoMemory);
         }
-        let room = self.count + more;
+        let room = count + more;
         self.stacks.reserve(room + 1)?;
         self.stacks.apart();
         self.room = room;
@@ -141,7 +146,7 @@ impl Lists {
     {
         self.stacks.add(key, watch);
         self.stacks.apart();
-        self.count += 1;
+        self.held += 1;
     }
 
     /// Begins a walk along the list of a key: all its watches lie ahead.
@@ -164,32 +169,41 @@ impl Lists {
         if place == 0 {
             return None;
         }
-        fill(&mut self.stacks, self.walked, self.hole);
+        fill(&mut self.stacks, &mut self.held, self.walked, self.hole);
         let watch = self.stacks.watch(place);
         let older = self.stacks.older(place);
         self.next = older;
         self.hole = place;
-        self.count -= 1;
         Some(watch)
     }
 
     /// Puts a watch into the list that is walked, behind the walk. It takes no memory.
-    #[inline]
+    #[inline(always)]
     pub fn keep(&mut self, watch: Watch)
         requires walk { IsSome self.old.walked }
         requires room { entries self.old < self.old.room }
         ensures { IfSome self.old.walked (λ key. IsPushed self.old self.new key watch) }
     {
         if self.hole == 0 {
-            if let Some(key) = self.walked {
-                self.push(key, watch);
-            }
+            self.push_on_walked(watch);
             return;
         }
         self.stacks.put(self.hole, watch);
         self.stacks.apart();
         self.hole = 0;
-        self.count += 1;
+    }
+
+    /// Adds a watch to the list that is walked, in a place of its own.
+    #[cold]
+    #[inline(never)]
+    fn push_on_walked(&mut self, watch: Watch)
+        requires walk { IsSome self.old.walked }
+        requires room { entries self.old < self.old.room }
+        ensures { IfSome self.old.walked (λ key. IsPushed self.old self.new key watch) }
+    {
+        if let Some(key) = self.walked {
+            self.push(key, watch);
+        }
     }
 
     /// Ends the walk. What still lay ahead stays in the list.
@@ -197,23 +211,26 @@ impl Lists {
         requires { IsSome self.old.walked }
         ensures { IfSome self.old.walked (λ key. IsEnded self.old self.new key) }
     {
-        fill(&mut self.stacks, self.walked, self.hole);
+        fill(&mut self.stacks, &mut self.held, self.walked, self.hole);
         self.walked = None;
         self.next = 0;
         self.hole = 0;
     }
 }
 
-/// Fills the hole on the walked stack, where there is one.
+/// Fills the hole on the walked stack, where there is one. Then the stacks hold a place less.
 #[inline]
-fn fill(stacks: &mut Stacks, walked: Option<usize>, hole: u32)
-    requires { IsOpen stacks.old walked hole }
-    ensures { (next : ℕ) → IsAlong stacks.old walked next hole → IsFilled stacks.old stacks.new walked next hole }
+fn fill(stacks: &mut Stacks, held: &mut usize, walked: Option<usize>, hole: u32)
+    requires hole { IsOpen stacks.old walked hole }
+    requires some { 0 < hole → 0 < held.old }
+    ensures filled { (next : ℕ) → IsAlong stacks.old walked next hole → IsFilled stacks.old stacks.new walked next hole }
+    ensures held { held.new + open_at hole ≡ held.old }
 {
     stacks.apart();
     if hole == 0 {
         return;
     }
+    *held -= 1;
     match walked {
         None => {}
         Some(key) => close(stacks, key, hole),
