@@ -10,11 +10,11 @@ use Rattle.sr_lists.specs.declared.blocks.Watch.{Watch}
 use Rattle.sr_lists.specs.Family.{Family, AreSame}
 use Rattle.sr_watch.proofs.Lengths.{same_length}
 use Rattle.sr_watch.specs.declared.watches.Watches.{Watches}
-use Rattle.sr_watch.specs.declared.watches.TheConstants.{UNSEEN}
+use Rattle.sr_watch.specs.declared.watches.TheConstants.{UNSEEN, SEEN}
 use Rattle.sr_watch.specs.Trail.{Entries}
 use Rattle.sr_watch.specs.Watching.{is_watch, IsGuarded, IsStuck, is_short, is_on, on_side, clause_on, is_of, is_stray, is_unlisted, times, listed, tally, key_of}
 use Rattle.sr_watch.specs.Attaching.{IsArranged, AreOpenWatches, IsEnlisted, IsPutOn, IsNoted}
-use Rattle.sr_watch.specs.Resting.{is_pending, IsSeen, IsPending, IsResting}
+use Rattle.sr_watch.specs.Resting.{is_pending, IsSeen, IsReason, IsPending, IsResting}
 use Rattle.sr_watch.proofs.Entries.{by_eq}
 use Rattle.sr_watch.proofs.Listing.{tally_agrees, tally_has}
 use Rattle.sr_watch.proofs.Visits.{clause_here, none_guarded, stocked_turned}
@@ -32,6 +32,14 @@ not_unlisted true c h o u = by_test c.flagged
 not_unlisted false c h o u = by_test c.marked
     (λ t. let z : is_unlisted false c ≡ false = by_test c.flagged (λ f. rw (h, t, f) refl) (λ f. rw (h, t, f) refl) in absurd cc)
     (λ t. let z : is_on false c ≡ false = rw t refl in absurd cc)
+
+-- a clause that wasn't listed is listed once
+pub enlisted_once : (f g : Family) (c : List Literal) (at : ℕ) → IsEnlisted f g c at → tally f [] (is_of at) ≡ 0 → times g at UNSEEN + times g at SEEN ≤ 1
+enlisted_once f g c at en none =
+    let t : (at == at) ≡ true = grind (arith, nat_tests) in
+    let a : times g at UNSEEN ≡ times f at UNSEEN + cond (is_short c) 1 0 = rw t at (en.unseen at) in
+    let one : cond {A = ℕ} (is_short c) 1 0 ≤ 1 = by_test (is_short c) (λ z. rw z (omega arith)) (λ z. rw z (omega arith)) in
+    omega (arith, a, one, en.seen at, none, tally_has f [] (is_of at) UNSEEN, tally_has f [] (is_of at) SEEN)
 
 pub entered_rests : (core : Bool) (m0 m n : Memory) (e : Entries) (w u v : Watches) (at : ℕ) → IsResting core m0 e w → on_side core m0 at ≡ false → tally w.lists [] (is_of at) ≡ 0 → IsArranged at m0 m → IsPutOn core m n at
     → IsEnlisted w.lists u.lists (cell_at m at).lits at → u ≡ record w { lists = u.lists } → IsNoted m e.lits (cell_at m at).lits at u v → IsResting core n e v
@@ -51,9 +59,15 @@ entered_rests core m0 m n e w u v at y off none ar put en u_is nt = record {
       (λ ne. let f : (at == r) ≡ false = grind (arith, nat_tests) in let a : listed u.lists r k ≡ listed w.lists r k + 0 = rw f at (en.literals r k) in
       rw (clauses r ne) (let b = y.linked r k (subst (λ (c : Cell). is_on core c ≡ true) (cells r ne) o) in omega (arith, a, b))));
   shaded = omega (arith, y.shaded, nt.shade, ap (λ (x : Watches). x.shade) u_is);
-  short = λ r o s. rw nt.lists (by_eq r at
-      (λ z. inl (let t : (at == r) ≡ true = grind (arith, nat_tests) in let sh : is_short (cell_at m at).lits ≡ true = ap is_short (sym put.lits) ∙ subst (λ j. is_short (cell_at n j).lits ≡ true) z s in let a : times u.lists r UNSEEN ≡ times w.lists r UNSEEN + 1 = rw (t, sh) at (en.unseen r) in omega (arith, a)))
-      (λ ne. short_other r ne (y.short r (subst (λ (c : Cell). is_on core c ≡ true) (cells r ne) o) (subst (λ (c : Cell). is_short c.lits ≡ true) (cells r ne) s))));
+  short = rw nt.lists (record {
+    each = λ r o s. by_eq r at
+        (λ z. inl (let t : (at == r) ≡ true = grind (arith, nat_tests) in let sh : is_short (cell_at m at).lits ≡ true = ap is_short (sym put.lits) ∙ subst (λ j. is_short (cell_at n j).lits ≡ true) z s in let a : times u.lists r UNSEEN ≡ times w.lists r UNSEEN + 1 = rw (t, sh) at (en.unseen r) in omega (arith, a)))
+        (λ ne. short_other r ne (y.short.each r (subst (λ (c : Cell). is_on core c ≡ true) (cells r ne) o) (subst (λ (c : Cell). is_short c.lits ≡ true) (cells r ne) s)));
+    light = λ r i some is o s. by_eq r at
+        (λ z. subst (λ j. times u.lists j UNSEEN + times u.lists j SEEN ≤ 1) (sym z) (enlisted_once w.lists u.lists (cell_at m at).lits at en none))
+        (λ ne. let f : (at == r) ≡ false = grind (arith, nat_tests) in let q : times u.lists r UNSEEN ≡ times w.lists r UNSEEN + 0 = rw f at (en.unseen r) in
+        omega (arith, q, en.seen r, y.short.light r i some is (subst (λ (c : Cell). is_on core c ≡ true) (cells r ne) o) (subst (λ (c : Cell). is_short c.lits ≡ true) (cells r ne) s)));
+  });
   within = omega (arith, y.within, nt.less, ap (λ (x : Watches). x.done) u_is);
   guarded = λ r z. by_eq r at
       (λ q. subst (λ j. IsGuarded (take v.done e.lits) e.lits (clause_on core n j)) (sym q) (rw here_is (nt.guarded (subst (λ j. is_pending v.pending j ≡ false) q z))))
@@ -100,12 +114,13 @@ entered_rests core m0 m n e w u v at y off none ar put en u_is nt = record {
         let z : listed w.lists at k ≤ tally w.lists [] (is_of at) = tally_has w.lists [] (is_of at) (key_of k) in
         rw here_is (omega (arith, a, z, none))
 
-    short_other : (r : ℕ) → r ≢ at → (0 < times w.lists r UNSEEN) ⊎ IsSeen m0 w.lists (take w.shade e.lits) r → (0 < times u.lists r UNSEEN) ⊎ IsSeen n u.lists (take v.shade e.lits) r
+    short_other : (r : ℕ) → r ≢ at → (0 < times w.lists r UNSEEN) ⊎ (IsSeen m0 w.lists (take w.shade e.lits) r ⊎ IsReason e.reasons w.top r) → (0 < times u.lists r UNSEEN) ⊎ (IsSeen n u.lists (take v.shade e.lits) r ⊎ IsReason e.reasons v.top r)
     short_other r ne (inl a) = inl (let f : (at == r) ≡ false = grind (arith, nat_tests) in let q : times u.lists r UNSEEN ≡ times w.lists r UNSEEN + 0 = rw f at (en.unseen r) in omega (arith, a, q))
-    short_other r ne (inr s) = inr (record {
+    short_other r ne (inr (inl s)) = inr (inl (record {
       is_listed = omega (arith, s.is_listed, en.seen r);
       is_true = rw (nt.shade ∙ ap (λ (x : Watches). x.shade) u_is, cells r ne) s.is_true;
-    })
+    }))
+    short_other r ne (inr (inr q)) = inr (inr (rw (nt.top ∙ ap (λ (x : Watches). x.top) u_is) q))
 
     old_kept : (i : ℕ) → holds_number i u.kept.items ≡ true → holds_number i w.kept.items ≡ true
     old_kept i h = subst (λ (x : Watches). holds_number i x.kept.items ≡ true) u_is h

@@ -10,14 +10,14 @@ use Rattle.sr_lists.specs.declared.blocks.Watch.{Watch}
 use Rattle.sr_lists.specs.Family.{Family, list_at, IsPushed, IsBegun, IsTaken, IsEnded}
 use Rattle.sr_watch.specs.declared.watches.Watches.{Watches}
 use Rattle.sr_watch.specs.declared.watches.TheConstants.{UNSEEN, SEEN}
-use Rattle.sr_watch.specs.Trail.{Entries, first_entries}
+use Rattle.sr_watch.specs.Trail.{Entries}
 use Rattle.sr_watch.specs.Rising.{AreRising, last_above}
 use Rattle.sr_watch.specs.Watching.{IsGuarded, AreGuarded, clause_on, is_of, is_stray, times, listed, left_of, tally}
 use Rattle.sr_watch.specs.Walking.{HasSameShape}
-use Rattle.sr_watch.specs.Resting.{is_pending, IsSeen, AreShortListed, IsResting}
+use Rattle.sr_watch.specs.Resting.{is_pending, IsSeen, IsReason, AreShortListed, IsResting}
 use Rattle.sr_watch.proofs.Walks.{some_more}
 use Rattle.sr_watch.proofs.Rises.{below_last, last_holds}
-use Rattle.sr_watch.proofs.Listing.{count_cons, listed_short, listed_taken, listed_short_begun, listed_short_ended, tally_pushed, tally_begun, tally_taken, tally_ended, tally_first}
+use Rattle.sr_watch.proofs.Listing.{count_cons, count_append, listed_short, listed_taken, listed_short_begun, listed_short_ended, tally_pushed, tally_begun, tally_taken, tally_ended, tally_first}
 use Rattle.sr_watch.proofs.OnWalk.{includes_take}
 
 -- how far the seen clauses were put among the others
@@ -58,6 +58,7 @@ pub record IsUnseen (f0 f : Family) : Type 0 where
   pub literals : (r : ℕ) (k : Literal) → listed f r k ≡ listed f0 r k
   pub tallies : (p : Watch → Bool) → tally f [] p ≡ tally f0 [] p
   pub unseen : (r : ℕ) → times f r UNSEEN ≡ times f0 r UNSEEN + times f0 r SEEN
+  pub seen : (r : ℕ) → times f r SEEN ≡ 0
 
 pub unseeing_over : (f0 f g : Family) → f0.walked ≡ None → IsUnseeing f0 f → SEEN < length f.lists → f.ahead ≡ [] → IsEnded f g SEEN → IsUnseen f0 g
 unseeing_over f0 f g idle x lt none b = record {
@@ -66,6 +67,7 @@ unseeing_over f0 f g idle x lt none b = record {
   literals = λ r k. listed_short_ended f g SEEN (omega arith) b r k ∙ x.literals r k;
   tallies = λ p. tally_ended f g SEEN p lt b ∙ x.tallies p;
   unseen = λ r. let z : left_of f.ahead r ≡ 0 = ap (λ ws. left_of ws r) none in omega (arith, b.others UNSEEN (λ e. absurd (omega (arith, e))) (is_of r), x.unseen r, z);
+  seen = λ r. let z : left_of f.ahead r ≡ 0 = ap (λ ws. left_of ws r) none in omega (arith, b.here (is_of r), count_append (is_of r) f.ahead (list_at f SEEN), x.seen r, z);
 }
 
 -- no lists
@@ -77,26 +79,30 @@ none_listed f r key e = go f.lists e
     go (l ∷ ls) n = absurd (omega (arith, n))
 
 -- all are unseen
-pub short_unseen : (core : Bool) (m : Memory) (f g : Family) (s t : List Literal) → ((r : ℕ) → times g r UNSEEN ≡ times f r UNSEEN + times f r SEEN) → AreShortListed core m f s → AreShortListed core m g t
-short_unseen core m f g s t u x r o sh = go (x r o sh)
+pub short_unseen : (core : Bool) (m : Memory) (f g : Family) (s t : List Literal) (rs : List ℕ) (top : ℕ) → ((r : ℕ) → times g r UNSEEN ≡ times f r UNSEEN + times f r SEEN) → ((r : ℕ) → times g r SEEN ≡ 0) → AreShortListed core m f s rs top → AreShortListed core m g t rs top
+short_unseen core m f g s t rs top u n x = record {
+  each = λ r o sh. go r (x.each r o sh);
+  light = λ r i some is o sh. omega (arith, x.light r i some is o sh, u r, n r);
+}
   where
-    go : (0 < times f r UNSEEN) ⊎ IsSeen m f s r → (0 < times g r UNSEEN) ⊎ IsSeen m g t r
-    go (inl a) = inl (omega (arith, a, u r))
-    go (inr v) = inl (omega (arith, v.is_listed, u r))
+    go : (r : ℕ) → (0 < times f r UNSEEN) ⊎ (IsSeen m f s r ⊎ IsReason rs top r) → (0 < times g r UNSEEN) ⊎ (IsSeen m g t r ⊎ IsReason rs top r)
+    go r (inl a) = inl (omega (arith, a, u r))
+    go r (inr (inl v)) = inl (omega (arith, v.is_listed, u r))
+    go r (inr (inr q)) = inr (inr q)
 
 pub includes_less : (n m : ℕ) (s : List Literal) → n ≤ m → Includes (take n s) (take m s)
 includes_less n m s le = subst (λ x. Includes x (take m s)) (take-take n m s le) (includes_take n (take m s))
 
 -- the entries are cut
 pub fallen_rests : (core : Bool) (m : Memory) (e : Entries) (w v : Watches) (mark : ℕ) → mark ≤ length e.lits → AreRising 0 v.kept.items → ((n : ℕ) → holds_number n v.kept.items ≡ true → holds_number n w.kept.items ≡ true) → v.done ≡ last_above 0 v.kept.items → v.done ≤ mark
-    → v.pending ≡ None → v.shade ≤ mark → HasSameShape w.lists v.lists → v.lists.ahead ≡ [] → ((r : ℕ) (k : Literal) → listed v.lists r k ≡ listed w.lists r k) → ((p : Watch → Bool) → tally v.lists [] p ≡ tally w.lists [] p)
-    → (AreShortListed core m w.lists (take w.shade e.lits) → AreShortListed core m v.lists (take v.shade (take mark e.lits))) → IsResting core m e w → IsResting core m (first_entries e mark) v
-fallen_rests core m e w v mark le rises fewer done_is low none shade shape ahead literals tallies short y = record {
+    → v.pending ≡ None → v.shade ≤ mark → v.top ≡ w.top → HasSameShape w.lists v.lists → v.lists.ahead ≡ [] → ((r : ℕ) (k : Literal) → listed v.lists r k ≡ listed w.lists r k) → ((p : Watch → Bool) → tally v.lists [] p ≡ tally w.lists [] p)
+    → (AreShortListed core m w.lists (take w.shade e.lits) e.reasons w.top → AreShortListed core m v.lists (take v.shade (take mark e.lits)) e.reasons w.top) → IsResting core m e w → IsResting core m (record e { lits = take mark e.lits }) v
+fallen_rests core m e w v mark le rises fewer done_is low none shade top shape ahead literals tallies short y = record {
   idle = record { keys = λ some. omega (arith, y.idle.keys some, shape.keys); both = λ some. omega (arith, y.idle.both (omega (arith, some, shape.keys)), shape.keys); walked = shape.walked ∙ y.idle.walked; ahead = ahead };
   stocked = record { few = λ r. omega (arith, tallies (is_of r), y.stocked.few r); clean = λ r h. tallies (is_of r) ∙ y.stocked.clean r h; blockers = tallies (is_stray m) ∙ y.stocked.blockers };
   linked = λ r k o. literals r k ∙ y.linked r k o;
   shaded = omega (arith, shade, size);
-  short = short y.short;
+  short = rw top (short y.short);
   within = omega (arith, low, size);
   guarded = λ r z. guarded r (last_holds 0 v.kept.items);
   pending = λ r z. let f : is_pending v.pending r ≡ false = ap (λ p. is_pending p r) none in absurd cc;

@@ -37,3 +37,5 @@ pub mod Attached
 pub mod Regrouping
 pub mod Derivations
 pub mod Replacing
+pub mod Shorts
+pub mod Cuts

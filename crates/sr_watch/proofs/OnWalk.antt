@@ -16,6 +16,7 @@ use Rattle.sr_watch.specs.Watching.{is_watch, AreGuarded, on_side, clause_on, ke
 use Rattle.sr_watch.specs.Walking.{IsNext, IsWalking, KeepsGuards, IsTurned, IsGrown, IsStep, HasSameShape, KeepsShort, IsWalked}
 use Rattle.sr_watch.proofs.Walks.{kept_on, kept_off, walking_same, start_walk, end_walk, put_back}
 use Rattle.sr_watch.proofs.Listing.{count_cons, listed_pushed, short_pushed, listed_begun, short_begun, listed_taken, takes_first, listed_ended, short_ended, tally_begun, tally_taken, tally_ended, tally_first}
+use Rattle.sr_watch.proofs.Shorts.{no_news, news_on}
 use Rattle.sr_watch.proofs.Visits.{clause_here, none_guarded, stocked_pushed, on_turned, within_cells, turned_start, grown_start}
 
 -- how far a walk has come
@@ -94,7 +95,7 @@ true_to_clause core m f w left x = by_test (is_stray m w)
 pub on_walk_start : (core : Bool) (m : Memory) (f g : Family) (e : Entries) (place : ℕ) (x l : Literal) → IsSound (joined e m) → place < length e.lits → x ≡ get_or e.lits place x → l ≡ complement x → key_of l < length f.lists → IsBegun f g (key_of l)
     → AreStocked core m f [] → AreLinked core m f → AreGuarded (take place e.lits) e.lits (clause_on core m) → IsOnWalk core m m f g e e place l
 on_walk_start core m f g e place x l sound lt is c lk b st li gu = record {
-  step = record { turned = turned_start core m; grown = grown_start m e sound };
+  step = record { turned = turned_start core m; grown = grown_start m e sound; reasons = no_news core m e };
   sound = sound;
   keys = b.keys;
   room = b.room;
@@ -205,7 +206,11 @@ grown_on e g h x y = record {
 }
 
 pub step_on : (core : Bool) (a b c : Memory) (e g h : Entries) → IsStep core a b e g → IsStep core b c g h → IsStep core a c e h
-step_on core a b c e g h x y = record { turned = turned_on core a b c x.turned y.turned; grown = grown_on e g h x.grown y.grown }
+step_on core a b c e g h x y = record {
+  turned = turned_on core a b c x.turned y.turned;
+  grown = grown_on e g h x.grown y.grown;
+  reasons = news_on core b c e g h (λ r. on_turned core (cell_at b r) (cell_at c r) (y.turned.each r)) y.grown x.reasons y.reasons;
+}
 
 pub keeps_on : (cs ds es : ℕ → List Literal) (s t : List Literal) → Includes s t → KeepsGuards s cs ds → KeepsGuards t ds es → KeepsGuards s cs es
 keeps_on cs ds es s t inc x y b u h g = y b u (λ k m. inc k (h k m)) (x b u h g)

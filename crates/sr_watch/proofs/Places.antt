@@ -64,3 +64,8 @@ pub fall_false : (ls : List Literal) (l : Literal) → has (complement l) ls ≡
 fall_false ls l h = by_test (place_in ls (complement l) == 0)
     (λ t. let z : has (complement l) (take (length ls) ls) ≡ false = place_none ls (complement l) (length ls) (grind (arith, nat_tests)) in let u : has (complement l) ls ≡ false = subst (λ x. has (complement l) x ≡ false) (take_all (length ls) ls (omega arith)) z in absurd cc)
     (λ f. rw f (place_le ls (complement l)))
+
+pub place_some : (ls : List Literal) (l : Literal) → has l ls ≡ true → 0 < place_in ls l
+place_some ls l h = by_test (place_in ls l == 0)
+    (λ t. let z : has l (take (length ls) ls) ≡ false = place_none ls l (length ls) (grind (arith, nat_tests)) in let u : has l ls ≡ false = subst (λ x. has l x ≡ false) (take_all (length ls) ls (omega arith)) z in absurd cc)
+    (λ f. grind (arith, nat_tests))

@@ -1,20 +1,20 @@
 -- What propagation leaves of what holds between calls.
 use Rattle.std.proofs.lemmas.Bool.Decides.{nat_tests}
 use Rattle.std.proofs.lemmas.List.{take_more}
-use Rattle.std.proofs.Common.{◌≡◌, ◌≢◌, ◌⊎◌, inl, inr, ◌<◌, ◌≤◌, ◌+◌, ℕ, suc, zero, Bool, true, false, cond, ◌==◌, List, [], ◌∷◌, ◌++◌, refl, sym, ◌∙◌, ap, subst, arith, length, get_or, take}
+use Rattle.std.proofs.Common.{◌≡◌, ◌≢◌, ◌<◌, ◌≤◌, ◌+◌, ℕ, suc, zero, Bool, true, false, cond, ◌==◌, List, [], ◌∷◌, ◌++◌, refl, sym, ◌∙◌, ap, subst, arith, length, get_or, take}
 use Rattle.sr_base.specs.Literal.{Literal, plus, complement, same, has}
 use Rattle.sr_base.proofs.Literals.{same_tells, has_append}
 use Rattle.sr_arena.specs.Cells.{Cell, Memory, cell_at}
 use Rattle.sr_model.proofs.Soundness.{by_test}
 use Rattle.sr_lists.specs.Family.{Family}
 use Rattle.sr_watch.specs.declared.watches.Watches.{Watches}
-use Rattle.sr_watch.specs.declared.watches.TheConstants.{UNSEEN, SEEN}
 use Rattle.sr_watch.specs.State.{IsSound}
 use Rattle.sr_watch.specs.Marks.{joined}
 use Rattle.sr_watch.specs.Trail.{Entries, place_in}
-use Rattle.sr_watch.specs.Watching.{IsGuarded, AreGuarded, is_on, on_side, clause_on, times}
+use Rattle.sr_watch.specs.Watching.{IsGuarded, AreGuarded, is_on, on_side, clause_on}
 use Rattle.sr_watch.specs.Walking.{KeepsGuards, IsTurnedCell, IsTurned, IsGrown, IsStep, HasSameShape, IsWalked}
-use Rattle.sr_watch.specs.Resting.{is_pending, IsSeen, IsResting, IsPrepared}
+use Rattle.sr_watch.specs.Resting.{is_pending, AreShortTrue, IsResting, IsPrepared}
+use Rattle.sr_watch.proofs.Shorts.{NoShortNews, shorts_grown, carried_turned, includes_same, none_new}
 use Rattle.sr_watch.proofs.Walks.{some_more, some_same}
 use Rattle.sr_watch.proofs.Visits.{clause_gone, short_turned, on_turned, stocked_turned}
 use Rattle.sr_watch.proofs.OnWalk.{includes_take, includes_kept, take_kept, grown_longer}
@@ -27,8 +27,8 @@ pub guards_grown : (e h : Entries) (n : ℕ) (cs ds : ℕ → List Literal) → 
 guards_grown e h n cs ds x le same_cs g r = rw (take_kept e.lits h.lits n le x.lits, same_cs r) (g r)
 
 -- the entries grow, and the clauses of the side stay
-pub rests_grown : (core : Bool) (m n : Memory) (e h : Entries) (w : Watches) → ((r : ℕ) → IsTurnedCell (cell_at m r) (cell_at n r)) → ((r : ℕ) → clause_on core n r ≡ clause_on core m r) → IsGrown e h → IsResting core m e w → IsResting core n h w
-rests_grown core m n e h w t same_cs x y =
+pub rests_grown : (core : Bool) (m n : Memory) (e h : Entries) (w : Watches) → ((r : ℕ) → IsTurnedCell (cell_at m r) (cell_at n r)) → ((r : ℕ) → clause_on core n r ≡ clause_on core m r) → IsGrown e h → NoShortNews core n e h → IsResting core m e w → IsResting core n h w
+rests_grown core m n e h w t same_cs x none y =
     let on : (r : ℕ) → on_side core n r ≡ on_side core m r = (λ r. on_turned core (cell_at m r) (cell_at n r) (t r)) in
     let longer : length e.lits ≤ length h.lits = grown_longer e h x in
     record {
@@ -36,7 +36,7 @@ rests_grown core m n e h w t same_cs x y =
       stocked = stocked_turned core core m n w.lists [] t y.stocked;
       linked = λ r k o. rw (same_cs r) (y.linked r k (sym (on r) ∙ o));
       shaded = omega (arith, y.shaded, longer);
-      short = λ r o s. short_on r (sym (on r) ∙ o) (y.short r (sym (on r) ∙ o) (sym (short_turned (cell_at m r) (cell_at n r) (t r)) ∙ s));
+      short = shorts_grown core m n w.lists w.lists (take w.shade e.lits) (take w.shade h.lits) e h w.top (carried_turned core m n w.lists w.lists t (λ r key lt. refl)) (includes_same (take w.shade e.lits) (take w.shade h.lits) (take_kept e.lits h.lits w.shade y.shaded x.lits)) x none y.short;
       within = omega (arith, y.within, longer);
       guarded = λ r z. rw (same_cs r) (guard_grown e h w.done (clause_on core m r) x y.within (y.guarded r z));
       pending = λ r z. let p = y.pending r z in record { held = (t r).held ∙ p.held; on = on r ∙ p.on; stuck = record { left = p.stuck.left; others = λ k i ne. includes_kept e.lits h.lits x.lits (complement k) (p.stuck.others k (sym ((t r).set k) ∙ i) ne) } };
@@ -46,10 +46,6 @@ rests_grown core m n e h w t same_cs x y =
         guarded = λ i z. guards_grown e h i (clause_on core m) (clause_on core n) x (y.kept.within i z) same_cs (y.kept.guarded i z);
       };
     }
-  where
-    short_on : (r : ℕ) → on_side core m r ≡ true → (0 < times w.lists r UNSEEN) ⊎ IsSeen m w.lists (take w.shade e.lits) r → (0 < times w.lists r UNSEEN) ⊎ IsSeen n w.lists (take w.shade h.lits) r
-    short_on r o (inl a) = inl a
-    short_on r o (inr s) = inr (record { is_listed = s.is_listed; is_true = rw (take_kept e.lits h.lits w.shade y.shaded x.lits) (some_same (take w.shade e.lits) (cell_at m r).lits (cell_at n r).lits (t r).set s.is_true) })
 
 -- the other side of a step
 differs : (a b : Bool) (c : Cell) → a ≢ b → is_on a c ≡ true → is_on b c ≡ false
@@ -64,7 +60,11 @@ other_clauses core side m n ne t r = by_test (on_side side m r)
     (λ o. clause_gone side n r (on_turned side (cell_at m r) (cell_at n r) (t.each r) ∙ o) ∙ sym (clause_gone side m r o))
 
 pub other_rests : (core side : Bool) (m n : Memory) (e h : Entries) (w : Watches) → side ≢ core → IsStep core m n e h → IsResting side m e w → IsResting side n h w
-other_rests core side m n e h w ne x y = rests_grown side m n e h w x.turned.each (other_clauses core side m n ne x.turned) x.grown y
+other_rests core side m n e h w ne x y =
+    rests_grown side m n e h w x.turned.each (other_clauses core side m n ne x.turned) x.grown
+    (λ r i some le is o sh. let mine : on_side core n r ≡ true = subst (λ j. on_side core n j ≡ true) is (x.reasons i le (omega (arith, is, some))) in
+    let off : on_side side n r ≡ false = differs core side (cell_at n r) (λ q. ne (sym q)) mine in absurd cc)
+    y
 
 pub other_prepared : (core side : Bool) (m n : Memory) (e h : Entries) (w : Watches) → side ≢ core → IsStep core m n e h → IsPrepared side m e w → IsPrepared side n h w
 other_prepared core side m n e h w ne x y = record {
@@ -81,9 +81,9 @@ step_prepared core m n e h w v p x y = record {
 }
 
 -- a walk
-pub walked_rests : (core : Bool) (m n : Memory) (e h : Entries) (w v : Watches) → v.kept ≡ w.kept → v.pending ≡ w.pending → v.shade ≡ w.shade → v.done ≤ length h.lits → IsStep core m n e h → KeepsGuards e.lits (clause_on core m) (clause_on core n) → IsWalked core n w.lists v.lists h.lits v.done
+pub walked_rests : (core : Bool) (m n : Memory) (e h : Entries) (w v : Watches) → v.kept ≡ w.kept → v.pending ≡ w.pending → v.shade ≡ w.shade → v.top ≡ w.top → v.done ≤ length h.lits → length e.reasons ≡ length e.lits → IsSound (joined h n) → IsStep core m n e h → KeepsGuards e.lits (clause_on core m) (clause_on core n) → IsWalked core n w.lists v.lists h.lits v.done
     → IsPrepared core m e w → IsResting core m e w → IsResting core n h v
-walked_rests core m n e h w v kept_is pending_is shade_is le x keeps wk pr y =
+walked_rests core m n e h w v kept_is pending_is shade_is top_is le sizes sound x keeps wk pr y =
     let longer : length e.lits ≤ length h.lits = grown_longer e h x.grown in
     let on : (r : ℕ) → on_side core n r ≡ on_side core m r = (λ r. on_turned core (cell_at m r) (cell_at n r) (x.turned.each r)) in
     let none : (r : ℕ) → is_pending v.pending r ≡ false = (λ r. ap (λ p. is_pending p r) (pending_is ∙ pr.pending)) in
@@ -92,7 +92,8 @@ walked_rests core m n e h w v kept_is pending_is shade_is le x keeps wk pr y =
       stocked = wk.stocked;
       linked = wk.linked;
       shaded = omega (arith, shade_is, y.shaded, longer);
-      short = λ r o s. short_on r (y.short r (sym (on r) ∙ o) (sym (short_turned (cell_at m r) (cell_at n r) (x.turned.each r)) ∙ s));
+      short = rw (shade_is, top_is) (shorts_grown core m n w.lists v.lists (take w.shade e.lits) (take w.shade h.lits) e h w.top (carried_turned core m n w.lists v.lists x.turned.each wk.short)
+          (includes_same (take w.shade e.lits) (take w.shade h.lits) (take_kept e.lits h.lits w.shade y.shaded x.grown.lits)) x.grown (none_new core n e h sizes all x.grown sound) y.short);
       within = le;
       guarded = λ r z. wk.guarded r;
       pending = λ r z. let f = none r in absurd cc;
@@ -104,12 +105,8 @@ walked_rests core m n e h w v kept_is pending_is shade_is le x keeps wk pr y =
       });
     }
   where
-    short_on : (r : ℕ) → (0 < times w.lists r UNSEEN) ⊎ IsSeen m w.lists (take w.shade e.lits) r → (0 < times v.lists r UNSEEN) ⊎ IsSeen n v.lists (take v.shade h.lits) r
-    short_on r (inl a) = inl (omega (arith, a, wk.short r UNSEEN (omega arith)))
-    short_on r (inr s) = inr (record {
-      is_listed = omega (arith, s.is_listed, wk.short r SEEN (omega arith));
-      is_true = rw (shade_is, take_kept e.lits h.lits w.shade y.shaded x.grown.lits) (some_same (take w.shade e.lits) (cell_at m r).lits (cell_at n r).lits (x.turned.each r).set s.is_true);
-    })
+    all : AreShortTrue core n e.lits
+    all r o s = some_same e.lits (cell_at m r).lits (cell_at n r).lits (x.turned.each r).set (pr.short r (sym (on_turned core (cell_at m r) (cell_at n r) (x.turned.each r)) ∙ o) (sym (short_turned (cell_at m r) (cell_at n r) (x.turned.each r)) ∙ s))
 
 -- an entry that repeats one makes nothing more false
 pub repeat_guarded : (cs : ℕ → List Literal) (t : List Literal) (place : ℕ) → place < length t → has (get_or t place (plus 0)) (take place t) ≡ true → AreGuarded (take place t) t cs → AreGuarded (take (place + 1) t) t cs

@@ -76,21 +76,21 @@ few_from f (c ∷ cs) k h z =
     (λ t. let h' : tally f [] (is_of k) ≤ 2 = rw t at here in omega (arith, h', rest, tally_split f k, held_yes c cs t))
     (λ t. let h' : tally f [] (is_of k) ≤ 0 = rw t at here in omega (arith, h', rest, tally_split f k, held_no c cs t))
 
--- and there is room for two more where a held clause has none
-fewer_from : (f : Family) (cs : List Cell) (k a : ℕ) → ((j : ℕ) → tally f [] (is_of (k + j)) ≤ cond (get_or cs j gone).held 2 0) → tally f [] (from (k + length cs)) ≡ 0 → (get_or cs a gone).held ≡ true → tally f [] (is_of (k + a)) ≡ 0 → tally f [] (from k) + 2 ≤ 2 * length (held_in cs)
-fewer_from f [] k a h z held none = absurd cc
-fewer_from f (c ∷ cs) k zero h z held none =
-    let here : tally f [] (is_of k) ≡ 0 = let e : k + 0 ≡ k = omega arith in subst (λ n. tally f [] (is_of n) ≡ 0) e none in
+-- and there is room for so many more as a held clause lacks of two
+fewer_from : (f : Family) (cs : List Cell) (k a d : ℕ) → ((j : ℕ) → tally f [] (is_of (k + j)) ≤ cond (get_or cs j gone).held 2 0) → tally f [] (from (k + length cs)) ≡ 0 → (get_or cs a gone).held ≡ true → tally f [] (is_of (k + a)) + d ≤ 2 → tally f [] (from k) + d ≤ 2 * length (held_in cs)
+fewer_from f [] k a d h z held few = absurd cc
+fewer_from f (c ∷ cs) k zero d h z held few =
+    let here : tally f [] (is_of k) + d ≤ 2 = let e : k + 0 ≡ k = omega arith in subst (λ n. tally f [] (is_of n) + d ≤ 2) e few in
     let rest : tally f [] (from (k + 1)) ≤ 2 * length (held_in cs) = few_from f cs (k + 1)
     (λ j. let e : k + suc j ≡ k + 1 + j = omega arith in subst (λ n. tally f [] (is_of n) ≤ cond (get_or cs j gone).held 2 0) e (h (suc j)))
     (let e : k + length (c ∷ cs) ≡ k + 1 + length cs = omega arith in subst (λ n. tally f [] (from n) ≡ 0) e z) in
     omega (arith, here, rest, tally_split f k, held_yes c cs held)
-fewer_from f (c ∷ cs) k (suc a) h z held none =
+fewer_from f (c ∷ cs) k (suc a) d h z held few =
     let here : tally f [] (is_of k) ≤ cond c.held 2 0 = let e : k + 0 ≡ k = omega arith in subst (λ n. tally f [] (is_of n) ≤ cond c.held 2 0) e (h 0) in
-    let rest : tally f [] (from (k + 1)) + 2 ≤ 2 * length (held_in cs) = fewer_from f cs (k + 1) a
+    let rest : tally f [] (from (k + 1)) + d ≤ 2 * length (held_in cs) = fewer_from f cs (k + 1) a d
     (λ j. let e : k + suc j ≡ k + 1 + j = omega arith in subst (λ n. tally f [] (is_of n) ≤ cond (get_or cs j gone).held 2 0) e (h (suc j)))
     (let e : k + length (c ∷ cs) ≡ k + 1 + length cs = omega arith in subst (λ n. tally f [] (from n) ≡ 0) e z)
-    held (let e : k + suc a ≡ k + 1 + a = omega arith in subst (λ n. tally f [] (is_of n) ≡ 0) e none) in
+    held (let e : k + suc a ≡ k + 1 + a = omega arith in subst (λ n. tally f [] (is_of n) + d ≤ 2) e few) in
     by_test c.held
     (λ t. let h' : tally f [] (is_of k) ≤ 2 = rw t at here in omega (arith, h', rest, tally_split f k, held_yes c cs t))
     (λ t. let h' : tally f [] (is_of k) ≤ 0 = rw t at here in omega (arith, h', rest, tally_split f k, held_no c cs t))
@@ -100,15 +100,18 @@ past_end [] r le = refl
 past_end (c ∷ cs) zero le = absurd (omega arith)
 past_end (c ∷ cs) (suc r) le = past_end cs r (omega arith)
 
-pub room_for_two : (core : Bool) (m : Memory) (f : Family) (count at : ℕ) → AreStocked core m f [] → f.ahead ≡ [] → length (held_in m.cells) ≡ count → HasRoom count f → IsHeld m at → tally f [] (is_of at) ≡ 0 → entries f + 2 ≤ f.room
-room_for_two core m f count at st none counted room held free =
+pub room_for : (core : Bool) (m : Memory) (f : Family) (count at d : ℕ) → AreStocked core m f [] → f.ahead ≡ [] → length (held_in m.cells) ≡ count → HasRoom count f → IsHeld m at → tally f [] (is_of at) + d ≤ 2 → entries f + d ≤ f.room
+room_for core m f count at d st none counted room held few_at =
     let unheld : (r : ℕ) → (cell_at m r).held ≡ false → tally f [] (is_of r) ≡ 0 = (λ r h. st.clean r (rw h refl)) in
     let few : (j : ℕ) → tally f [] (is_of (0 + j)) ≤ cond (cell_at m j).held 2 0 = (λ j. let e : j ≡ 0 + j = omega arith in subst (λ n. tally f [] (is_of n) ≤ cond (cell_at m j).held 2 0) e (by_test (cell_at m j).held (λ t. rw t (st.few j)) (λ t. rw t (omega (arith, unheld j t))))) in
     let end : tally f [] (from (0 + length m.cells)) ≡ 0 = let e : length m.cells ≡ 0 + length m.cells = omega arith in subst (λ n. tally f [] (from n) ≡ 0) e (tally_none f (length m.cells) (λ r le. unheld r (ap (λ (c : Cell). c.held) (past_end m.cells r le)))) in
-    let all : tally f [] (from 0) + 2 ≤ 2 * length (held_in m.cells) = fewer_from f m.cells 0 at few end held (let e : at ≡ 0 + at = omega arith in subst (λ n. tally f [] (is_of n) ≡ 0) e free) in
+    let all : tally f [] (from 0) + d ≤ 2 * length (held_in m.cells) = fewer_from f m.cells 0 at d few end held (let e : at ≡ 0 + at = omega arith in subst (λ n. tally f [] (is_of n) + d ≤ 2) e few_at) in
     let z : count_by (from 0) [] ≡ 0 = refl in
     let a : length f.ahead ≡ 0 = ap length none in
     omega (arith, all, sum_whole f.lists, z, a, counted, room.room)
+
+pub room_for_two : (core : Bool) (m : Memory) (f : Family) (count at : ℕ) → AreStocked core m f [] → f.ahead ≡ [] → length (held_in m.cells) ≡ count → HasRoom count f → IsHeld m at → tally f [] (is_of at) ≡ 0 → entries f + 2 ≤ f.room
+room_for_two core m f count at st none counted room held free = room_for core m f count at 2 st none counted room held (omega (arith, free))
 
 -- a clause is held
 pub held_some : (cs : List Cell) (at : ℕ) → (get_or cs at gone).held ≡ true → 0 < length (held_in cs)

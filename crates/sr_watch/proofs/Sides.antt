@@ -1,7 +1,7 @@
 -- What holds of both sides between calls, as clauses come and go.
 use Rattle.std.proofs.lemmas.Bool.Decides.{nat_tests}
-use Rattle.std.proofs.lemmas.List.{take-append-le, length-append}
-use Rattle.std.proofs.Common.{◌≡◌, ◌≢◌, ◌⊎◌, inl, inr, ◌<◌, ◌≤◌, ◌+◌, ◌*◌, ℕ, suc, zero, Bool, true, false, cond, ◌==◌, List, [], ◌∷◌, ◌++◌, refl, sym, ◌∙◌, ap, subst, arith, length, get_or, take}
+use Rattle.std.proofs.lemmas.List.{take-append-le, length-append, get_or_append_left}
+use Rattle.std.proofs.Common.{◌≡◌, ◌≢◌, ◌⊎◌, inl, inr, ◌≤◌, ◌+◌, ◌*◌, ℕ, suc, zero, Bool, true, false, cond, ◌==◌, List, [], ◌∷◌, ◌++◌, refl, sym, ◌∙◌, ap, subst, arith, length, get_or, take}
 use Rattle.std.specs.List.{count_by}
 use Rattle.sr_base.specs.Literal.{Literal, complement, SameSet}
 use Rattle.sr_base.proofs.Literals.{has_append}
@@ -11,12 +11,12 @@ use Rattle.sr_model.specs.Refutation.{Includes}
 use Rattle.sr_model.proofs.Soundness.{by_test}
 use Rattle.sr_lists.specs.declared.blocks.Watch.{Watch}
 use Rattle.sr_watch.specs.declared.watches.Watches.{Watches}
-use Rattle.sr_watch.specs.declared.watches.TheConstants.{UNSEEN, SEEN}
 use Rattle.sr_watch.specs.Trail.{Entries, with_entry}
-use Rattle.sr_watch.specs.Watching.{IsGuarded, AreGuarded, IsStuck, is_short, is_on, on_side, clause_on, is_of, is_stray, is_unlisted, times, tally, key_of}
+use Rattle.sr_watch.specs.Watching.{IsGuarded, AreGuarded, IsStuck, is_short, is_on, on_side, clause_on, is_of, is_stray, is_unlisted, tally, key_of}
 use Rattle.sr_watch.specs.Purging.{IsPurged, IsClearedCell, AreCleared}
-use Rattle.sr_watch.specs.Resting.{is_pending, IsSeen, IsResting, HasRoom, HasMoreRoom, IsBlank, AreWatched}
+use Rattle.sr_watch.specs.Resting.{is_pending, IsResting, HasRoom, HasMoreRoom, IsBlank, AreWatched}
 use Rattle.sr_watch.proofs.Entries.{by_eq}
+use Rattle.sr_watch.proofs.Shorts.{reason_within, derived_before, shorts_carried, shorts_same, carried_cells, includes_same}
 use Rattle.sr_watch.proofs.Walks.{some_more}
 use Rattle.sr_watch.proofs.Listing.{tally_agrees, tally_both, tally_each}
 use Rattle.sr_watch.proofs.Visits.{clause_gone, empty_same}
@@ -38,16 +38,12 @@ purged_rests core m e w v is p y = subst (IsResting core m e) (sym is) (record {
   stocked = p.stocked;
   linked = λ r k o. p.same r (key_of k) o ∙ y.linked r k o;
   shaded = y.shaded;
-  short = λ r o s. short r o (y.short r o s);
+  short = shorts_same core m m w.lists v.lists (take w.shade e.lits) (take w.shade e.lits) e.reasons w.top (record { on = λ r o. o; short = λ r o s. s; trues = λ r o s t. t; times = λ r key o lt. p.same r key o }) (λ k h. h) y.short;
   within = y.within;
   guarded = y.guarded;
   pending = y.pending;
   kept = y.kept;
 })
-  where
-    short : (r : ℕ) → on_side core m r ≡ true → (0 < times w.lists r UNSEEN) ⊎ IsSeen m w.lists (take w.shade e.lits) r → (0 < times v.lists r UNSEEN) ⊎ IsSeen m v.lists (take w.shade e.lits) r
-    short r o (inl a) = inl (omega (arith, a, p.same r UNSEEN o))
-    short r o (inr s) = inr (record { is_listed = omega (arith, s.is_listed, p.same r SEEN o); is_true = s.is_true })
 
 -- flags that were taken away
 on_cleared : (core : Bool) (c d : Cell) → IsClearedCell c d → is_on core d ≡ is_on core c
@@ -74,16 +70,13 @@ cleared_rests core m n e w x none y =
       };
       linked = λ r k o. rw (clauses r) (y.linked r k (sym (on r) ∙ o));
       shaded = y.shaded;
-      short = λ r o s. short r (y.short r (sym (on r) ∙ o) (subst (λ c. is_short c ≡ true) (x.each r).lits s));
+      short = shorts_same core m n w.lists w.lists (take w.shade e.lits) (take w.shade e.lits) e.reasons w.top
+          (record { on = λ r o. sym (on r) ∙ o; short = λ r o s. subst (λ c. is_short c ≡ true) (x.each r).lits s; trues = λ r o s t. rw (x.each r).lits t; times = λ r key o lt. refl }) (λ k h. h) y.short;
       within = y.within;
       guarded = λ r z. rw (clauses r) (y.guarded r z);
       pending = λ r z. let p = y.pending r z in record { held = (x.each r).held ∙ p.held; on = on r ∙ p.on; stuck = rw (x.each r).lits p.stuck };
       kept = record { rising = y.kept.rising; within = y.kept.within; guarded = λ i h r. rw (clauses r) (y.kept.guarded i h r) };
     }
-  where
-    short : (r : ℕ) → (0 < times w.lists r UNSEEN) ⊎ IsSeen m w.lists (take w.shade e.lits) r → (0 < times w.lists r UNSEEN) ⊎ IsSeen n w.lists (take w.shade e.lits) r
-    short r (inl a) = inl a
-    short r (inr s) = inr (record { is_listed = s.is_listed; is_true = rw (x.each r).lits s.is_true })
 
 -- a clause that isn't attached to the side any more, or is where it was and isn't pending
 pub left_rests : (core : Bool) (m n : Memory) (e : Entries) (w : Watches) (at : ℕ) → ((r : ℕ) → r ≢ at → cell_at n r ≡ cell_at m r) → (cell_at n at).held ≡ (cell_at m at).held → length (cell_at n at).lits ≡ length (cell_at m at).lits → SameSet (cell_at n at).lits (cell_at m at).lits
@@ -103,9 +96,7 @@ left_rests core m n e w at others held size set off unlisted free y = record {
       (λ q. let z : on_side core n r ≡ false = subst (λ j. on_side core n j ≡ false) (sym q) off in absurd cc)
       (λ ne. rw (clauses r ne) (y.linked r k (subst (λ (c : Cell). is_on core c ≡ true) (others r ne) o)));
   shaded = y.shaded;
-  short = λ r o s. by_eq r at
-      (λ q. let z : on_side core n r ≡ false = subst (λ j. on_side core n j ≡ false) (sym q) off in absurd cc)
-      (λ ne. short r ne (y.short r (subst (λ (c : Cell). is_on core c ≡ true) (others r ne) o) (subst (λ (c : Cell). is_short c.lits ≡ true) (others r ne) s)));
+  short = shorts_same core m n w.lists w.lists (take w.shade e.lits) (take w.shade e.lits) e.reasons w.top (carried_cells core m n w.lists old) (λ k h. h) y.short;
   within = y.within;
   guarded = λ r z. by_eq r at
       (λ q. subst (λ j. IsGuarded (take w.done e.lits) e.lits (clause_on core n j)) (sym q) (none (take w.done e.lits) e.lits))
@@ -128,9 +119,10 @@ left_rests core m n e w at others held size set off unlisted free y = record {
     none : (b t : List Literal) → IsGuarded b t (clause_on core n at)
     none b t = rw (clause_gone core n at off) (λ k i f. absurd cc)
 
-    short : (r : ℕ) → r ≢ at → (0 < times w.lists r UNSEEN) ⊎ IsSeen m w.lists (take w.shade e.lits) r → (0 < times w.lists r UNSEEN) ⊎ IsSeen n w.lists (take w.shade e.lits) r
-    short r ne (inl a) = inl a
-    short r ne (inr s) = inr (record { is_listed = s.is_listed; is_true = rw (others r ne) s.is_true })
+    old : (r : ℕ) → on_side core n r ≡ true → cell_at n r ≡ cell_at m r
+    old r o = by_eq r at
+        (λ q. let z : on_side core n r ≡ false = subst (λ j. on_side core n j ≡ false) (sym q) off in absurd cc)
+        (λ ne. others r ne)
 
 -- a clause isn't pending any more, which isn't attached any more either
 pub forgotten_rests : (core : Bool) (m n : Memory) (e : Entries) (w v : Watches) (at : ℕ) → v ≡ record w { pending = v.pending } → is_pending v.pending at ≡ false → ((r : ℕ) → is_pending v.pending r ≡ true → is_pending w.pending r ≡ true) → ((r : ℕ) → is_pending v.pending r ≡ false → is_pending w.pending r ≡ true → r ≡ at)
@@ -151,9 +143,7 @@ forgotten_rests core m n e w v at is here fewer only others held lits off unlist
       (λ q. let z : on_side core n r ≡ false = subst (λ j. on_side core n j ≡ false) (sym q) off in absurd cc)
       (λ ne. rw (clauses r ne) (y.linked r k (subst (λ (c : Cell). is_on core c ≡ true) (others r ne) o)));
   shaded = y.shaded;
-  short = λ r o s. by_eq r at
-      (λ q. let z : on_side core n r ≡ false = subst (λ j. on_side core n j ≡ false) (sym q) off in absurd cc)
-      (λ ne. short r ne (y.short r (subst (λ (c : Cell). is_on core c ≡ true) (others r ne) o) (subst (λ (c : Cell). is_short c.lits ≡ true) (others r ne) s)));
+  short = shorts_same core m n w.lists w.lists (take w.shade e.lits) (take w.shade e.lits) e.reasons w.top (carried_cells core m n w.lists old) (λ k h. h) y.short;
   within = y.within;
   guarded = λ r z. by_eq r at
       (λ q. subst (λ j. IsGuarded (take w.done e.lits) e.lits (clause_on core n j)) (sym q) (none (take w.done e.lits) e.lits))
@@ -176,9 +166,10 @@ forgotten_rests core m n e w v at is here fewer only others held lits off unlist
     none : (b t : List Literal) → IsGuarded b t (clause_on core n at)
     none b t = rw (clause_gone core n at off) (λ k i f. absurd cc)
 
-    short : (r : ℕ) → r ≢ at → (0 < times w.lists r UNSEEN) ⊎ IsSeen m w.lists (take w.shade e.lits) r → (0 < times w.lists r UNSEEN) ⊎ IsSeen n w.lists (take w.shade e.lits) r
-    short r ne (inl a) = inl a
-    short r ne (inr s) = inr (record { is_listed = s.is_listed; is_true = rw (others r ne) s.is_true })
+    old : (r : ℕ) → on_side core n r ≡ true → cell_at n r ≡ cell_at m r
+    old r o = by_eq r at
+        (λ q. let z : on_side core n r ≡ false = subst (λ j. on_side core n j ≡ false) (sym q) off in absurd cc)
+        (λ ne. others r ne)
 
 -- more room
 pub roomier_rests : (core : Bool) (m : Memory) (e : Entries) (w v : Watches) → HasMoreRoom w v → IsResting core m e w → IsResting core m e v
@@ -189,7 +180,7 @@ roomier_rests core m e w v x y =
       stocked = record { few = λ r. omega (arith, tallies (is_of r), y.stocked.few r); clean = λ r h. tallies (is_of r) ∙ y.stocked.clean r h; blockers = tallies (is_stray m) ∙ y.stocked.blockers };
       linked = λ r k o. x.each (key_of k) (is_of r) ∙ y.linked r k o;
       shaded = omega (arith, y.shaded, x.shade);
-      short = λ r o s. short r (y.short r o s);
+      short = rw (x.shade, x.top) (shorts_same core m m w.lists v.lists (take w.shade e.lits) (take w.shade e.lits) e.reasons w.top (record { on = λ r o. o; short = λ r o s. s; trues = λ r o s t. t; times = λ r key o lt. x.each key (is_of r) }) (λ k h. h) y.short);
       within = omega (arith, y.within, x.done);
       guarded = λ r z. rw x.done (y.guarded r (ap (λ p. is_pending p r) (sym x.pending) ∙ z));
       pending = λ r z. y.pending r (ap (λ p. is_pending p r) (sym x.pending) ∙ z);
@@ -198,10 +189,6 @@ roomier_rests core m e w v x y =
   where
     tallies : (p : Watch → Bool) → tally v.lists [] p ≡ tally w.lists [] p
     tallies p = tally_each w.lists v.lists p x.each
-
-    short : (r : ℕ) → (0 < times w.lists r UNSEEN) ⊎ IsSeen m w.lists (take w.shade e.lits) r → (0 < times v.lists r UNSEEN) ⊎ IsSeen m v.lists (take v.shade e.lits) r
-    short r (inl a) = inl (omega (arith, a, x.each UNSEEN (is_of r)))
-    short r (inr s) = inr (record { is_listed = omega (arith, s.is_listed, x.each SEEN (is_of r)); is_true = rw x.shade s.is_true })
 
 pub roomier : (n : ℕ) (w v : Watches) → HasMoreRoom w v → HasRoom n w.lists → HasRoom n v.lists
 roomier n w v x y = record { keys = λ some. omega (arith, y.keys some, x.keys); room = omega (arith, y.room, x.room) }
@@ -232,7 +219,7 @@ added_rests core m n e w at c a un held y =
       };
       linked = λ r k o. rw (clauses r) (y.linked r k (subst (λ (d : Cell). is_on core d ≡ true) (old r o) o));
       shaded = y.shaded;
-      short = λ r o s. short r (old r o) (y.short r (subst (λ (d : Cell). is_on core d ≡ true) (old r o) o) (subst (λ (d : Cell). is_short d.lits ≡ true) (old r o) s));
+      short = shorts_same core m n w.lists w.lists (take w.shade e.lits) (take w.shade e.lits) e.reasons w.top (carried_cells core m n w.lists old) (λ k h. h) y.short;
       within = y.within;
       guarded = λ r z. rw (clauses r) (y.guarded r z);
       pending = λ r z. let p = y.pending r z in
@@ -241,10 +228,6 @@ added_rests core m n e w at c a un held y =
       kept = record { rising = y.kept.rising; within = y.kept.within; guarded = λ i h r. rw (clauses r) (y.kept.guarded i h r) };
     }
   where
-    short : (r : ℕ) → cell_at n r ≡ cell_at m r → (0 < times w.lists r UNSEEN) ⊎ IsSeen m w.lists (take w.shade e.lits) r → (0 < times w.lists r UNSEEN) ⊎ IsSeen n w.lists (take w.shade e.lits) r
-    short r is (inl b) = inl b
-    short r is (inr s) = inr (record { is_listed = s.is_listed; is_true = rw is s.is_true })
-
     stray : tally w.lists [] (is_of at) ≡ 0 → tally w.lists [] (is_stray m) ≡ 0 → tally w.lists [] (is_stray n) ≡ 0
     stray z s = omega (
       arith,
@@ -256,8 +239,8 @@ added_rests core m n e w at c a un held y =
     )
 
 -- a literal is assumed
-pub assumed_rests : (core : Bool) (m : Memory) (e : Entries) (w : Watches) (l : Literal) (reason : ℕ) → IsResting core m e w → IsResting core m (with_entry e l reason) w
-assumed_rests core m e w l reason y =
+pub assumed_rests : (core : Bool) (m : Memory) (e : Entries) (w : Watches) (l : Literal) → IsResting core m e w → IsResting core m (with_entry e l 0) w
+assumed_rests core m e w l y =
     let first : (n : ℕ) → n ≤ length e.lits → take n (e.lits ++ l ∷ []) ≡ take n e.lits = (λ n le. take-append-le n e.lits (l ∷ []) le) in
     let more : Includes e.lits (e.lits ++ l ∷ []) = (λ k h. grind (arith, has_append k e.lits (l ∷ []))) in
     let longer : length e.lits ≤ length (e.lits ++ l ∷ []) = omega (arith, length-append e.lits (l ∷ [])) in
@@ -266,7 +249,8 @@ assumed_rests core m e w l reason y =
       stocked = y.stocked;
       linked = y.linked;
       shaded = omega (arith, y.shaded, longer);
-      short = λ r o s. subst (λ t. (0 < times w.lists r UNSEEN) ⊎ IsSeen m w.lists t r) (sym (first w.shade y.shaded)) (y.short r o s);
+      short = shorts_carried core m m w.lists w.lists (take w.shade e.lits) (take w.shade (e.lits ++ l ∷ [])) e.reasons (e.reasons ++ 0 ∷ []) w.top (carried_cells core m m w.lists (λ r o. refl)) (includes_same (take w.shade e.lits) (take w.shade (e.lits ++ l ∷ [])) (first w.shade y.shaded))
+          (λ i some. get_or_append_left e.reasons (0 ∷ []) 0 i (reason_within e.reasons i some)) (λ r i some is o s. derived_before e.reasons i r some is) y.short;
       within = omega (arith, y.within, longer);
       guarded = λ r z. subst (λ b. IsGuarded b (e.lits ++ l ∷ []) (clause_on core m r)) (sym (first w.done y.within)) (λ k i h. some_more e.lits (e.lits ++ l ∷ []) (clause_on core m r) more (y.guarded r z k i h));
       pending = λ r z. let p = y.pending r z in record { held = p.held; on = p.on; stuck = record { left = p.stuck.left; others = λ k i ne. more (complement k) (p.stuck.others k i ne) } };
@@ -295,7 +279,7 @@ blank_rests core most w b = record {
   stocked = rw b.lists (record { few = λ r. omega arith; clean = λ r h. refl; blockers = refl });
   linked = λ r k o. absurd (off r o);
   shaded = omega (arith, b.shade);
-  short = λ r o s. absurd (off r o);
+  short = record { each = λ r o s. absurd (off r o); light = λ r i some is o s. absurd (off r o) };
   within = omega (arith, b.done);
   guarded = λ r z. rw b.done (λ k i h. absurd cc);
   pending = λ r z. let f : is_pending w.pending r ≡ false = ap (λ p. is_pending p r) b.pending in absurd cc;
@@ -329,7 +313,7 @@ watched_roomier m known e core core' rest rest' a b y = record {
 }
 
 pub no_roomier : (w : Watches) → HasMoreRoom w w
-no_roomier w = record { keys = omega arith; both = λ f some. f some; each = λ k p. refl; ahead = λ p. refl; walked = refl; room = omega arith; kept = refl; done = refl; pending = refl; shade = refl }
+no_roomier w = record { keys = omega arith; both = λ f some. f some; each = λ k p. refl; ahead = λ p. refl; walked = refl; room = omega arith; kept = refl; done = refl; pending = refl; shade = refl; top = refl }
 
 pub watched_wider : (m : Memory) (known : List ℕ) (e : Entries) (core rest : Watches) (vars : ℕ) → 2 * vars + 4 ≤ length core.lists.lists → 2 * vars + 4 ≤ length rest.lists.lists → AreWatched m known e core rest → AreWatched m known (record e { vars = vars }) core rest
 watched_wider m known e core rest vars a b y = record {
@@ -351,11 +335,11 @@ watched_added m n known e core rest at lits number a cr rr y =
       rest_room = subst (λ k. HasRoom k rest.lists) (sym size) rr;
     }
 
-pub watched_assumed : (m : Memory) (known : List ℕ) (e : Entries) (core rest : Watches) (l : Literal) (reason : ℕ) → AreWatched m known e core rest → AreWatched m known (with_entry e l reason) core rest
-watched_assumed m known e core rest l reason y = record {
+pub watched_assumed : (m : Memory) (known : List ℕ) (e : Entries) (core rest : Watches) (l : Literal) → AreWatched m known e core rest → AreWatched m known (with_entry e l 0) core rest
+watched_assumed m known e core rest l y = record {
   counted = y.counted;
-  core_rests = assumed_rests true m e core l reason y.core_rests;
-  rest_rests = assumed_rests false m e rest l reason y.rest_rests;
+  core_rests = assumed_rests true m e core l y.core_rests;
+  rest_rests = assumed_rests false m e rest l y.rest_rests;
   core_room = y.core_room;
   rest_room = y.rest_room;
 }

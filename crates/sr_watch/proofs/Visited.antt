@@ -12,6 +12,7 @@ use Rattle.sr_watch.specs.Marks.{joined}
 use Rattle.sr_watch.specs.Trail.{Entries, with_entry}
 use Rattle.sr_watch.specs.Watching.{SomeTrue, is_on, on_side, clause_on, key_of, listed, left_of, AreStocked}
 use Rattle.sr_watch.specs.Walking.{IsTrueIn, IsFree, IsNext, IsWalking, KeepsGuards, IsStep}
+use Rattle.sr_watch.proofs.Shorts.{no_news, news_push, news_here}
 use Rattle.sr_watch.proofs.Swapping.{Swaps}
 use Rattle.sr_watch.proofs.Walks.{Takes, kept_on, moved_on, moved_keeps, walking_more}
 use Rattle.sr_watch.proofs.Listing.{listed_pushed, takes_first}
@@ -39,7 +40,7 @@ takes_at w ws rest at e s = subst (Takes (left_of (w ∷ ws)) (left_of rest)) e 
 pub visited_true : (core : Bool) (m : Memory) (f g : Family) (e : Entries) (l b : Literal) (at : ℕ) → IsSound (joined e m) → on_side core m at ≡ true → key_of l < length f.lists → IsPushed f g (key_of l) (record { blocker = b; at = at })
     → IsTrueIn e.lits (cell_at m at).lits b → Visited core m m f g e e l at
 visited_true core m f g e l b at x on lt p t = record {
-  step = record { turned = turned_start core m; grown = grown_start m e x };
+  step = record { turned = turned_start core m; grown = grown_start m e x; reasons = no_news core m e };
   sound = x;
   keeps = λ s u i y. y;
   stocked = λ w is y. stocked_pushed core m f g (key_of l) (record { blocker = b; at = at }) w f.ahead g.ahead lt p.ahead p (sym is) (not_stray m (record { blocker = b; at = at }) t.of_clause) y;
@@ -54,7 +55,7 @@ pub visited_forced : (core : Bool) (m : Memory) (f g : Family) (e : Entries) (l 
 visited_forced core m f g e l b at x on some lt p fo o =
     let nx = next_on core m e at b on some fo o in
     record {
-      step = record { turned = turned_start core m; grown = grown_push m e b at x nx };
+      step = record { turned = turned_start core m; grown = grown_push m e b at x nx; reasons = news_here core m at e (with_entry e b at) on (news_push at e b) };
       sound = sound_push m e b at x nx;
       keeps = λ s u i y. y;
       stocked = λ w is y. stocked_pushed core m f g (key_of l) (record { blocker = b; at = at }) w f.ahead g.ahead lt p.ahead p (sym is) (not_stray m (record { blocker = b; at = at }) fo.of_clause) y;
@@ -78,7 +79,7 @@ visited_free core m n f g e l k other at side place x held on lt is cells ek p f
     let moved = subst (λ d. Swaps (clause_on core m at) d l k) (sym here) (subst (λ d. Swaps d (swap (cell_at m at).lits side place) l k) (sym there) sw) in
     let free : has (complement k) e.lits ≡ false = subst (λ j. has (complement j) e.lits ≡ false) ek fr.not_false in
     record {
-      step = record { turned = t; grown = grown_start m e x };
+      step = record { turned = t; grown = grown_start m e x; reasons = no_news core n e };
       sound = sound_turned m n e t.each (once_swapped m n e at side place x held is sw.distinct) x;
       keeps = moved_keeps (clause_on core m) (clause_on core n) e.lits l k at moved.moved moved.set others free;
       stocked = λ w at_is y. stocked_turned core core m n g g.ahead t.each

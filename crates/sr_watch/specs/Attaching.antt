@@ -64,6 +64,7 @@ pub record IsPutOn (core : Bool) (m n : Memory) (at : ℕ) : Type 0 where
 pub record IsNoted (m : Memory) (trail c : List Literal) (at : ℕ) (old new : Watches) : Type 0 where
   pub lists : new.lists ≡ old.lists
   pub shade : new.shade ≡ old.shade
+  pub top : new.top ≡ old.top
   pub less : new.done ≤ old.done
   pub rising : AreRising 0 new.kept.items
   pub fewer : (n : ℕ) → holds_number n new.kept.items ≡ true → (holds_number n old.kept.items ≡ true) × IsGuarded (take n trail) (take n trail) c

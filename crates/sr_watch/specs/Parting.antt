@@ -1,11 +1,13 @@
 -- Clauses that are attached and detached.
-use Rattle.std.specs.Prelude.{ℕ, ◌≡◌, ◌≢◌, Bool, true, false, Option, Some, None, List, length}
+use Rattle.std.specs.Prelude.{ℕ, ◌+◌, ◌≤◌, ◌≡◌, ◌≢◌, Bool, true, false, Option, Some, None, List, length}
 use Rattle.sr_base.specs.Literal.{SameSet}
 use Rattle.sr_arena.specs.Cells.{Memory, cell_at, held_cells}
 use Rattle.sr_watch.specs.declared.watches.Watches.{Watches}
 use Rattle.sr_watch.specs.declared.parts.Part.{Part}
 use Rattle.sr_watch.specs.Parts.{is_core}
 use Rattle.sr_watch.specs.Trail.{Entries}
+use Rattle.sr_watch.specs.declared.watches.TheConstants.{UNSEEN, SEEN}
+use Rattle.sr_watch.specs.Watching.{on_side, times}
 use Rattle.sr_watch.specs.Resting.{AreWatched}
 
 -- the mark and the flag of a clause that is attached to a part, or to none though it may still be listed
@@ -42,3 +44,8 @@ pub record IsMoved (m n : Memory) (at : ℕ) (p : Part) : Type 0 where
 pub record AreWatchedSomehow (m : Memory) (known : List ℕ) (core rest : Watches) : Type 0 where
   pub entries : Entries
   pub watched : AreWatched m known entries core rest
+
+-- on the side that it is attached to, a clause is listed once at most as one of at most one literal
+pub record IsListedOnce (m : Memory) (core rest : Watches) (at : ℕ) : Type 0 where
+  pub on_core : on_side true m at ≡ true → times core.lists at UNSEEN + times core.lists at SEEN ≤ 1
+  pub on_rest : on_side false m at ≡ true → times rest.lists at UNSEEN + times rest.lists at SEEN ≤ 1

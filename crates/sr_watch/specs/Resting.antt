@@ -1,6 +1,6 @@
 -- What holds between calls: the entries below `done` were walked, at each kept length propagation was still, and one
 -- clause may be pending.
-use Rattle.std.specs.Prelude.{ℕ, ◌+◌, ◌*◌, ◌<◌, ◌≤◌, ◌⊎◌, ◌==◌, Bool, true, false, ◌≡◌, List, [], Option, Some, None, length, take}
+use Rattle.std.specs.Prelude.{ℕ, ◌+◌, ◌*◌, ◌<◌, ◌≤◌, ◌⊎◌, ◌==◌, Bool, true, false, ◌≡◌, List, [], Option, Some, None, length, take, slice_index_or}
 use Rattle.sr_base.specs.Literal.{Literal}
 use Rattle.sr_arena.specs.Cells.{Memory, cell_at, IsHeld, held_in}
 use Rattle.sr_model.specs.Assignment.{holds_number}
@@ -32,9 +32,18 @@ pub record IsSeen (m : Memory) (f : Family) (trues : List Literal) (r : ℕ) : T
   pub is_listed : 0 < times f r SEEN
   pub is_true : SomeTrue trues (cell_at m r).lits
 
--- each attached clause of at most one literal is listed as unseen, or as seen and is true by the first entries
-abbrev pub AreShortListed : Bool → Memory → Family → List Literal → Type 0
-AreShortListed core m f trues = (r : ℕ) → on_side core m r ≡ true → is_short (cell_at m r).lits ≡ true → (0 < times f r UNSEEN) ⊎ IsSeen m f trues r
+-- the clause is the reason of one of the first entries
+pub record IsReason (reasons : List ℕ) (top r : ℕ) : Type 0 where
+  pub some : 0 < r
+  pub place : ℕ
+  pub low : place < top
+  pub is : slice_index_or reasons place 0 ≡ r
+
+-- each attached clause of at most one literal is listed as unseen, or as seen and is true by the first entries, or it is the
+-- reason of one of the first entries. One that is a reason is listed once at most
+pub record AreShortListed (core : Bool) (m : Memory) (f : Family) (trues : List Literal) (reasons : List ℕ) (top : ℕ) : Type 0 where
+  pub each : (r : ℕ) → on_side core m r ≡ true → is_short (cell_at m r).lits ≡ true → (0 < times f r UNSEEN) ⊎ (IsSeen m f trues r ⊎ IsReason reasons top r)
+  pub light : (r i : ℕ) → 0 < r → slice_index_or reasons i 0 ≡ r → on_side core m r ≡ true → is_short (cell_at m r).lits ≡ true → times f r UNSEEN + times f r SEEN ≤ 1
 
 -- each of them is true
 abbrev pub AreShortTrue : Bool → Memory → List Literal → Type 0
@@ -61,7 +70,7 @@ pub record IsResting (core : Bool) (m : Memory) (e : Entries) (w : Watches) : Ty
   pub stocked : AreStocked core m w.lists []
   pub linked : AreLinked core m w.lists
   pub shaded : w.shade ≤ length e.lits
-  pub short : AreShortListed core m w.lists (take w.shade e.lits)
+  pub short : AreShortListed core m w.lists (take w.shade e.lits) e.reasons w.top
   pub within : w.done ≤ length e.lits
   pub guarded : (r : ℕ) → is_pending w.pending r ≡ false → IsGuarded (take w.done e.lits) e.lits (clause_on core m r)
   pub pending : (r : ℕ) → is_pending w.pending r ≡ true → IsPending core m e.lits r
@@ -79,6 +88,7 @@ pub record IsBlank (w : Watches) : Type 0 where
   pub pending : w.pending ≡ None
   pub done : w.done ≡ 0
   pub shade : w.shade ≡ 0
+  pub top : w.top ≡ 0
 
 -- there may be more lists and more room, and all else is as it was
 pub record HasMoreRoom (old new : Watches) : Type 0 where
@@ -92,6 +102,7 @@ pub record HasMoreRoom (old new : Watches) : Type 0 where
   pub done : new.done ≡ old.done
   pub pending : new.pending ≡ old.pending
   pub shade : new.shade ≡ old.shade
+  pub top : new.top ≡ old.top
 
 -- both sides: so many clauses are held, and there is room for the watches of each
 pub record AreWatched (m : Memory) (known : List ℕ) (e : Entries) (core rest : Watches) : Type 0 where

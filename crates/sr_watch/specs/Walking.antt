@@ -26,6 +26,13 @@ pub record IsFree (trail c : List Literal) (w : Literal) (side place : ℕ) (oth
   pub not_false : has (complement (slice_index_or c place (plus 0))) trail ≡ false
   pub other_of : has other c ≡ true
 
+-- the literals from a place on, and before another one, are false
+abbrev pub AreFalseAt : List Literal → List Literal → ℕ → ℕ → Type 0
+AreFalseAt trail c from to = (j : ℕ) → from ≤ j → j < to → has (complement (slice_index_or c j (plus 0))) trail ≡ true
+
+abbrev pub IsNotFalseAt : List Literal → List Literal → ℕ → Type 0
+IsNotFalseAt trail c j = has (complement (slice_index_or c j (plus 0))) trail ≡ false
+
 -- what is seen of a clause with a false watch
 abbrev pub Sees : List Literal → List Literal → Literal → Look → Type 0
 Sees trail c w (Satisfied l) = IsTrueIn trail c l
@@ -83,10 +90,19 @@ pub record IsGrown (old new : Entries) : Type 0 where
   pub assumed : assumed_of new ≡ assumed_of old
   pub no_pair : has_pair old.lits ≡ false → has_pair new.lits ≡ false
 
+-- the reason of new entries is the clause
+abbrev pub AreReasonsOnly : ℕ → Entries → Entries → Type 0
+AreReasonsOnly at e g = (i : ℕ) → length e.reasons ≤ i → 0 < slice_index_or g.reasons i 0 → slice_index_or g.reasons i 0 ≡ at
+
+-- the reasons of new entries are clauses of the side
+abbrev pub AreReasonsOn : Bool → Memory → Entries → Entries → Type 0
+AreReasonsOn core m e g = (i : ℕ) → length e.reasons ≤ i → 0 < slice_index_or g.reasons i 0 → on_side core m (slice_index_or g.reasons i 0) ≡ true
+
 -- a step of propagation over one side
 pub record IsStep (core : Bool) (m n : Memory) (e g : Entries) : Type 0 where
   pub turned : IsTurned core m n
   pub grown : IsGrown e g
+  pub reasons : AreReasonsOn core n e g
 
 -- the same keys, walk and room
 pub record HasSameShape (old new : Family) : Type 0 where

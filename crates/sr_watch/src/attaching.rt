@@ -10,13 +10,13 @@ ghost use Rattle.sr_lists.specs.Family.{entries};
 ghost use Rattle.sr_watch.specs.State.{AreWithin};
 ghost use Rattle.sr_watch.specs.Trail.{Entries, place_in};
 ghost use Rattle.sr_watch.specs.Rising.{AreRising};
-ghost use Rattle.sr_watch.specs.Watching.{SomeTrue, is_of, is_watch, on_side, key_of, tally};
+ghost use Rattle.sr_watch.specs.Watching.{SomeTrue, is_of, is_watch, on_side, key_of, times, tally};
 ghost use Rattle.sr_watch.specs.Attaching.{fall_of, IsArranged, FallsLast, AreOpenWatches, IsWatchFalse, IsChosen, IsEnlisted, IsPutOn, IsNoted, IsRestingWithout};
 ghost use Rattle.sr_watch.specs.Walking.{HasSameShape};
 ghost use Rattle.sr_watch.specs.Resting.{is_pending, IsResting};
 
 use crate::trail::Trail;
-use crate::watches::{UNSEEN, Watches, drop_between, key};
+use crate::watches::{SEEN, UNSEEN, Watches, drop_between, key};
 use sr_arena::{ClauseMem, Cref, Steps};
 use sr_base::Lit;
 use sr_lists::{Lists, Watch};
@@ -227,6 +227,7 @@ fn enter_counted<L: Ledger>(
     ensures arranged { IsArranged at memory.old memory.new }
     ensures distinct { NoRepeats (cell_at memory.new at).lits }
     ensures shape { HasSameShape watches.old.lists watches.new.lists }
+    ensures once { tally watches.old.lists [] (is_of at) ≡ 0 → times watches.new.lists at UNSEEN + times watches.new.lists at SEEN ≤ 1 }
     ensures rests { (core : Bool) (n : Memory) → IsResting core memory.old trail.now watches.old → on_side core memory.old at ≡ false → tally watches.old.lists [] (is_of at) ≡ 0 → IsPutOn core memory.new n at → IsResting core n trail.now watches.new }
 {
     let mut steps = Steps::<L>::new(blank);
@@ -247,6 +248,7 @@ pub fn enter(memory: &mut ClauseMem, watches: &mut Watches, trail: &Trail, at: C
     ensures arranged { IsArranged at memory.old memory.new }
     ensures distinct { NoRepeats (cell_at memory.new at).lits }
     ensures shape { HasSameShape watches.old.lists watches.new.lists }
+    ensures once { tally watches.old.lists [] (is_of at) ≡ 0 → times watches.new.lists at UNSEEN + times watches.new.lists at SEEN ≤ 1 }
     ensures rests { (core : Bool) (n : Memory) → IsResting core memory.old trail.now watches.old → on_side core memory.old at ≡ false → tally watches.old.lists [] (is_of at) ≡ 0 → IsPutOn core memory.new n at → IsResting core n trail.now watches.new }
 {
     enter_counted::<Brand>(memory, watches, trail, at, Blank::new(1));

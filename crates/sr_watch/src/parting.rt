@@ -9,7 +9,7 @@ ghost use Rattle.sr_watch.specs.Trail.{Entries};
 ghost use Rattle.sr_watch.specs.Watching.{is_of, tally};
 ghost use Rattle.sr_watch.specs.Purging.{AreCleared};
 ghost use Rattle.sr_watch.specs.Resting.{is_pending, AreWatched};
-ghost use Rattle.sr_watch.specs.Parting.{IsParted, IsMoved, AreWatchedSomehow};
+ghost use Rattle.sr_watch.specs.Parting.{IsParted, IsMoved, IsListedOnce, AreWatchedSomehow};
 
 use crate::attaching::enter;
 use crate::parts::Part;
@@ -76,6 +76,7 @@ pub fn attach_to(
     requires watched { (known : List ℕ) × AreWatched memory.old known trail.now core.old rest.old × ((part ≡ Part.Core → tally core.old.lists [] (is_of at) ≡ 0) × (part ≡ Part.All → (cell_at memory.old at).flagged ≡ false)) }
     ensures moved { IsMoved memory.old memory.new at part }
     ensures distinct { NoRepeats (cell_at memory.new at).lits }
+    ensures once { IsListedOnce memory.new core.new rest.new at }
     ensures watched { (known : List ℕ) → AreWatched memory.old known trail.now core.old rest.old → AreWatched memory.new known trail.now core.new rest.new }
 {
     match part {

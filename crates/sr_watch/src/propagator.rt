@@ -11,13 +11,13 @@ ghost use Rattle.sr_base.specs.declared.literal.TheConstants.{MOST_VARS};
 
 use crate::chains::{collect, first_clash};
 use crate::closing::close_part;
-use crate::cutting::cut;
+use crate::cutting::{cut, succeed};
 use crate::marks::Marks;
 use crate::needed::Needed;
 use crate::parting::{attach_to, forget, freshen, set_part};
 use crate::parts::{Found, Part};
 use crate::queue::Queue;
-use crate::reasons::{release, take_over};
+use crate::reasons::{heir, place_of, take_over};
 use crate::scanning::{reason_of, value_of};
 use crate::spares::Spares;
 use crate::trail::Trail;
@@ -228,17 +228,19 @@ impl Propagator {
         ensures value { (n : ℕ) × IsDetached self.old self.new at n }
         ensures cells { held_cells self.new ≡ held_cells self.old }
     {
-        release(
+        let place = place_of(&self.memory, &self.trail, at);
+        let heir = heir(&self.memory, &self.trail, &self.spares, at, place);
+        forget(&mut self.core, at);
+        forget(&mut self.rest, at);
+        set_part(&mut self.memory, at, None);
+        succeed(
             &self.memory,
             &mut self.trail,
             &mut self.core,
             &mut self.rest,
-            &self.spares,
-            at,
+            place,
+            heir,
         );
-        forget(&mut self.core, at);
-        forget(&mut self.rest, at);
-        set_part(&mut self.memory, at, None);
     }
 
     /// Makes an attached clause one of the core.
@@ -292,7 +294,13 @@ impl Propagator {
         requires { mark ≤ length self.old.lits }
         ensures { self.new ≡ cut_to self.old mark }
     {
-        cut(&mut self.trail, &mut self.core, &mut self.rest, mark);
+        cut(
+            &self.memory,
+            &mut self.trail,
+            &mut self.core,
+            &mut self.rest,
+            mark,
+        );
     }
 
     /// What the first entry of its variable makes a literal; none where it is neither true nor false.

@@ -6,25 +6,24 @@
 // A clause of one literal takes over from the reason of the entry of its literal. So where solvers write such a clause for what
 // is true already and then delete the reason, no entry goes. The reason before it is remembered, and takes over again where
 // it still can.
-ghost use Rattle.std.specs.Prelude.{ℕ, List, [], ◌∷◌, ◌≡◌, ◌≢◌, ◌<◌, ◌≤◌, true, take, IfSome};
+ghost use Rattle.std.specs.Prelude.{◌≡◌, ◌≢◌, ◌<◌, ◌≤◌, true, false, take, IfSome};
 ghost use Rattle.sr_base.specs.Literal.{has, variable};
 ghost use Rattle.sr_arena.specs.Cells.{IsHeld, cell_at};
 ghost use Rattle.sr_watch.specs.Marks.{joined};
-ghost use Rattle.sr_watch.specs.Reasons.{IsReasonAt, MayBeReason, MayTakeOver, IsReleased, AreSpares};
-ghost use Rattle.sr_watch.specs.Resting.{AreWatched};
+ghost use Rattle.sr_watch.specs.Reasons.{IsReasonAt, MayBeReason, MayTakeOver, AreSpares};
 ghost use Rattle.sr_watch.specs.State.{IsSound, IsAttached, IsForcedBy};
+ghost use Rattle.sr_watch.specs.Watching.{is_short};
 
-use crate::cutting::cut;
 use crate::spares::Spares;
 use crate::trail::Trail;
-use crate::watches::Watches;
+use crate::watches::single;
 use sr_arena::{ClauseMem, Cref, Steps};
 use sr_base::Lit;
 use std::marker::Brand;
 use std::sync::ledger::{Blank, Ledger};
 
 /// Where the entry stands that a clause is the reason of; the number of entries where there is none.
-fn place_of(memory: &ClauseMem, trail: &Trail, at: Cref) -> usize
+pub fn place_of(memory: &ClauseMem, trail: &Trail, at: Cref) -> usize
     requires held { IsHeld memory.now at }
     requires sound { IsSound (joined trail.now memory.now) }
     ensures { IsReasonAt trail.now at result }
@@ -52,30 +51,6 @@ fn place_counted<L: Ledger>(memory: &ClauseMem, trail: &Trail, at: Cref, blank: 
         }
     }
     reasons.len()
-}
-
-/// The literal of a clause of one literal.
-fn single(memory: &ClauseMem, at: Cref) -> Option<Lit>
-    requires { IsHeld memory.now at }
-    ensures { IfSome result (λ l. (cell_at memory.now at).lits ≡ l ∷ []) }
-{
-    single_counted::<Brand>(memory, at, Blank::new(1))
-}
-
-/// The same with a count of steps.
-fn single_counted<L: Ledger>(memory: &ClauseMem, at: Cref, blank: Blank) -> Option<Lit>
-    requires name { blank.name ≡ L.name }
-    requires parts { blank.parts ≡ L.parts }
-    requires some { 0 < blank.parts }
-    requires held { IsHeld memory.now at }
-    ensures { IfSome result (λ l. (cell_at memory.now at).lits ≡ l ∷ []) }
-{
-    let mut steps = Steps::<L>::new(blank);
-    let clause = memory.lits(at, &mut steps);
-    if clause.len() != 1 {
-        return None;
-    }
-    Some(clause[0])
 }
 
 /// Whether the first entries force a literal by a clause.
@@ -158,44 +133,33 @@ pub fn take_over(memory: &ClauseMem, trail: &mut Trail, spares: &mut Spares, at:
     trail.set_reason(place - 1, at.index());
 }
 
-/// The remembered clause that can take over from the reason of an entry.
-fn heir(memory: &ClauseMem, trail: &Trail, spares: &Spares, at: Cref, place: usize) -> Option<Cref>
+/// The remembered clause that can take over from the reason of an entry. It has more than one literal.
+pub fn heir(
+    memory: &ClauseMem,
+    trail: &Trail,
+    spares: &Spares,
+    at: Cref,
+    place: usize,
+) -> Option<Cref>
     requires sound { IsSound (joined trail.now memory.now) }
     requires spares { AreSpares memory.now trail.now.vars spares.now }
     requires some { 0 < at }
     requires was { IsReasonAt trail.now at place }
-    ensures { IfSome result (λ r. MayBeReason memory.now trail.now place r × (r ≢ at)) }
+    ensures { IfSome result (λ r. MayBeReason memory.now trail.now place r × (r ≢ at) × (is_short (cell_at memory.now r).lits ≡ false)) }
 {
     if place >= trail.lits().len() {
         return None;
     }
     let l = trail.lits()[place];
     let reason = spares.get(l.var())?;
-    if reason == at || !memory.mark(reason) || !forces(memory, trail, reason, l, place) {
+    if reason == at || !memory.mark(reason) {
+        return None;
+    }
+    if single(memory, reason).is_some() {
+        return None;
+    }
+    if !forces(memory, trail, reason, l, place) {
         return None;
     }
     Some(reason)
-}
-
-/// Lets a clause be no entry's reason: a remembered one takes over, or the entries are cut.
-pub fn release(
-    memory: &ClauseMem,
-    trail: &mut Trail,
-    core: &mut Watches,
-    rest: &mut Watches,
-    spares: &Spares,
-    at: Cref,
-)
-    requires held { IsHeld memory.now at }
-    requires sound { IsSound (joined trail.old memory.now) }
-    requires spares { AreSpares memory.now trail.old.vars spares.now }
-    requires watched { (known : List ℕ) × AreWatched memory.now known trail.old core.old rest.old }
-    ensures released { IsReleased memory.now trail.old trail.new at }
-    ensures watched { (known : List ℕ) → AreWatched memory.now known trail.old core.old rest.old → AreWatched memory.now known trail.new core.new rest.new }
-{
-    let place = place_of(memory, trail, at);
-    match heir(memory, trail, spares, at, place) {
-        None => cut(trail, core, rest, place),
-        Some(reason) => trail.set_reason(place, reason.index()),
-    }
 }

@@ -1,12 +1,13 @@
 // What comes before the walk: clauses of at most one literal, and the pending one.
-ghost use Rattle.std.specs.Prelude.{ℕ, [], ◌≡◌, ◌<◌, ◌≤◌, true, false, None, length, take, MatchOption};
-ghost use Rattle.sr_base.specs.Literal.{NoRepeats};
+ghost use Rattle.std.specs.Prelude.{ℕ, [], ◌≡◌, ◌≢◌, ◌<◌, ◌≤◌, ◌-◌, true, false, None, length, take, slice_index_or, MatchOption};
+ghost use Rattle.sr_base.specs.Literal.{NoRepeats, variable};
 ghost use Rattle.sr_arena.specs.Cells.{IsHeld, cell_at};
 ghost use Rattle.sr_watch.specs.State.{IsSound, IsAttached, AllFalse, AreWithin};
 ghost use Rattle.sr_watch.specs.Marks.{joined};
+ghost use Rattle.sr_watch.specs.Trail.{place_in};
 ghost use Rattle.sr_watch.specs.Scanning.{Stands};
 ghost use Rattle.sr_watch.specs.Watching.{SomeTrue, IsStuck, AreStocked, AreLinked};
-ghost use Rattle.sr_watch.specs.Walking.{IsGrown, IsStep, HasSameShape, IsFalseOn};
+ghost use Rattle.sr_watch.specs.Walking.{IsGrown, AreReasonsOnly, AreReasonsOn, IsStep, HasSameShape, IsFalseOn};
 ghost use Rattle.sr_watch.specs.Resting.{is_pending, PendingIsTrue, IsResting, IsPrepared, AreShortListed, AreShortTrue};
 
 use crate::trail::Trail;
@@ -57,6 +58,7 @@ fn settle<L: Ledger>(memory: &ClauseMem, trail: &mut Trail, at: Cref, steps: &mu
     requires attached { IsAttached (joined trail.old memory.now) at }
     ensures grown { IsGrown trail.old trail.new }
     ensures sound { IsSound (joined trail.new memory.now) }
+    ensures only { AreReasonsOnly at trail.old trail.new }
     ensures falsified { result ≡ true → (trail.new ≡ trail.old) × AllFalse trail.old.lits (cell_at memory.now at).lits }
     ensures settled { result ≡ false → IsStuck trail.old.lits (cell_at memory.now at).lits → SomeTrue trail.new.lits (cell_at memory.now at).lits }
 {
@@ -70,11 +72,29 @@ fn settle<L: Ledger>(memory: &ClauseMem, trail: &mut Trail, at: Cref, steps: &mu
     }
 }
 
-/// Makes the clauses of one literal true that weren't seen, up to one that is false.
+/// How many of the first entries make a literal true, and whether the last of these has the reason.
+fn stands(trail: &Trail, l: Lit, at: Cref) -> (usize, bool)
+    requires { variable l ≤ trail.now.vars }
+    ensures some { 0 < at }
+    ensures place { result.0 ≡ place_in trail.now.lits l }
+    ensures is { result.1 ≡ true → (0 < result.0) × (slice_index_or trail.now.reasons (result.0 - 1) 0 ≡ at) }
+    ensures not { result.1 ≡ false → (0 < result.0) → slice_index_or trail.now.reasons (result.0 - 1) 0 ≢ at }
+{
+    let reason = at.index();
+    let place = trail.place(l) as usize;
+    if place == 0 {
+        return (0, false);
+    }
+    (place, trail.reasons()[place - 1] == reason)
+}
+
+/// Makes the clauses of one literal true that weren't seen, up to one that is false. Those that are reasons of entries then aren't
+/// listed.
 fn settle_units<L: Ledger>(
     memory: &ClauseMem,
     lists: &mut Lists,
     shade: &mut usize,
+    top: &mut usize,
     trail: &mut Trail,
     core: bool,
     steps: &mut Steps<L>,
@@ -85,7 +105,7 @@ fn settle_units<L: Ledger>(
     requires stocked { AreStocked core memory.now lists.old [] }
     requires linked { AreLinked core memory.now lists.old }
     requires shaded { shade.old ≤ length trail.old.lits }
-    requires short { AreShortListed core memory.now lists.old (take shade.old trail.old.lits) }
+    requires short { AreShortListed core memory.now lists.old (take shade.old trail.old.lits) trail.old.reasons top.old }
     ensures grown { IsGrown trail.old trail.new }
     ensures sound { IsSound (joined trail.new memory.now) }
     ensures shape { HasSameShape lists.old lists.new }
@@ -93,7 +113,8 @@ fn settle_units<L: Ledger>(
     ensures stocked { AreStocked core memory.now lists.new [] }
     ensures linked { AreLinked core memory.now lists.new }
     ensures shaded { shade.new ≤ length trail.new.lits }
-    ensures short { AreShortListed core memory.now lists.new (take shade.new trail.new.lits) }
+    ensures short { AreShortListed core memory.now lists.new (take shade.new trail.new.lits) trail.new.reasons top.new }
+    ensures reasons { AreReasonsOn core memory.now trail.old trail.new }
     ensures settled { MatchOption result (AreShortTrue core memory.now trail.new.lits) (λ at. IsFalseOn core memory.now trail.new.lits at) }
 {
     if lists.keys() < 2 {
@@ -108,8 +129,13 @@ fn settle_units<L: Ledger>(
                 lists.end();
                 return Some(at);
             }
+            let (place, own) = stands(trail, blocker, at);
+            if own {
+                *top = place.max(*top);
+                continue;
+            }
             lists.push(SEEN, Watch { blocker, at });
-            *shade = trail.lits().len();
+            *shade = place.max(*shade);
         }
     }
     lists.end();
@@ -128,6 +154,7 @@ fn settle_pending<L: Ledger>(
     requires attached { (r : ℕ) → is_pending pending.old r ≡ true → IsAttached (joined trail.old memory.now) r }
     requires stuck { (r : ℕ) → is_pending pending.old r ≡ true → IsStuck trail.old.lits (cell_at memory.now r).lits }
     ensures grown { IsGrown trail.old trail.new }
+    ensures only { (i : ℕ) → length trail.old.reasons ≤ i → 0 < slice_index_or trail.new.reasons i 0 → is_pending pending.old (slice_index_or trail.new.reasons i 0) ≡ true }
     ensures sound { IsSound (joined trail.new memory.now) }
     ensures settled { MatchOption result ((pending.new ≡ None) × PendingIsTrue memory.now trail.new.lits pending.old)
         (λ at. (pending.new ≡ pending.old) × (is_pending pending.old at ≡ true) × AllFalse trail.new.lits (cell_at memory.now at).lits) }
@@ -162,6 +189,7 @@ pub fn settle_all<L: Ledger>(
         memory,
         &mut watches.lists,
         &mut watches.shade,
+        &mut watches.top,
         trail,
         core,
         steps,

@@ -1,32 +1,34 @@
 // The clauses of the core, or of the rest, by the literals that are watched in them.
-ghost use Rattle.std.specs.Prelude.{ℕ, Bool, List, ◌≡◌, ◌≤◌, ◌<◌, ◌+◌, ◌*◌, ◌^◌, ◌⊎◌, true, [], None, length, take, OnOk, OnErr, IsOk};
+ghost use Rattle.std.specs.Prelude.{ℕ, Bool, List, ◌≡◌, ◌≢◌, ◌≤◌, ◌<◌, ◌+◌, ◌*◌, ◌^◌, ◌⊎◌, ◌∷◌, true, [], None, length, take, OnOk, OnErr, IsOk, MatchOption};
 ghost use Rattle.sr_base.specs.Literal.{Literal};
 ghost use Rattle.sr_base.specs.declared.literal.TheConstants.{MOST_VARS};
 ghost use Rattle.sr_arena.specs.Cells.{Memory, IsHeld, cell_at};
 ghost use Rattle.sr_model.specs.Assignment.{holds_number};
 ghost use Rattle.sr_lists.specs.declared.blocks.Watch.{Watch as Listed};
-ghost use Rattle.sr_watch.specs.Trail.{Entries, first_entries};
+ghost use Rattle.sr_watch.specs.Trail.{Entries};
 ghost use Rattle.sr_watch.specs.Watching.{is_on, key_of, listed, times, tally};
 ghost use Rattle.sr_watch.specs.Walking.{HasSameShape};
 ghost use Rattle.sr_watch.specs.Rising.{AreRising, last_above};
 ghost use Rattle.sr_watch.specs.Resting.{IsBlank, HasRoom, HasMoreRoom, IsResting, AreShortListed};
 
 use crate::trail::reserve_to;
-use sr_arena::{ClauseMem, Cref};
+use sr_arena::{ClauseMem, Cref, Steps};
 use sr_base::{Lit, NoMemory};
 use sr_lists::{Lists, Watch};
 use std::alloc::Global;
-use std::mem;
+use std::marker::Brand;
+use std::sync::ledger::{Blank, Ledger};
 
-/// The list of the clauses of at most one literal that are true.
+/// The list of the clauses of one literal that were seen to be true by another reason.
 pub const SEEN: usize = 0;
-/// The list of those that weren't seen to be true.
+/// The list of those of at most one literal that weren't seen to be true.
 pub const UNSEEN: usize = 1;
 
 /// The watched clauses of one side.
 #[derive(Drop)]
 pub struct Watches {
-    /// For each literal the clauses in which it is watched, and two lists of the clauses of at most one literal.
+    /// For each literal the clauses in which it is watched, and two lists of the clauses of at most one literal. Such a clause
+    /// may be in neither where it is the reason of an entry.
     pub lists: Lists,
     /// How many of the first entries were walked.
     pub done: usize,
@@ -36,6 +38,8 @@ pub struct Watches {
     pub pending: Option<Cref>,
     /// How many of the first entries make the seen clauses of one literal true.
     pub shade: usize,
+    /// The clauses of one literal that aren't listed are reasons of so many of the first entries.
+    pub top: usize,
 }
 
 /// The list of a literal.
@@ -55,6 +59,30 @@ pub fn is_on(memory: &ClauseMem, at: Cref, core: bool) -> bool
     memory.mark(at) && memory.flag(at) == core
 }
 
+/// The literal of a clause of one literal.
+pub fn single(memory: &ClauseMem, at: Cref) -> Option<Lit>
+    requires { IsHeld memory.now at }
+    ensures { MatchOption result (length (cell_at memory.now at).lits ≢ 1) (λ l. (cell_at memory.now at).lits ≡ l ∷ []) }
+{
+    single_counted::<Brand>(memory, at, Blank::new(1))
+}
+
+/// The same with a count of steps.
+fn single_counted<L: Ledger>(memory: &ClauseMem, at: Cref, blank: Blank) -> Option<Lit>
+    requires name { blank.name ≡ L.name }
+    requires parts { blank.parts ≡ L.parts }
+    requires some { 0 < blank.parts }
+    requires held { IsHeld memory.now at }
+    ensures { MatchOption result (length (cell_at memory.now at).lits ≢ 1) (λ l. (cell_at memory.now at).lits ≡ l ∷ []) }
+{
+    let mut steps = Steps::<L>::new(blank);
+    let clause = memory.lits(at, &mut steps);
+    if clause.len() != 1 {
+        return None;
+    }
+    Some(clause[0])
+}
+
 impl Watches {
     /// No watches, and no room. It takes no memory.
     pub fn new(alloc: Global) -> Watches
@@ -66,6 +94,7 @@ impl Watches {
             kept: Vec::new(alloc),
             pending: None,
             shade: 0,
+            top: 0,
         }
     }
 
@@ -97,7 +126,7 @@ impl Watches {
         requires walked { self.old.lists.walked ≡ None }
         requires ahead { self.old.lists.ahead ≡ [] }
         ensures shape { HasSameShape self.old.lists self.new.lists }
-        ensures rests { (core : Bool) (m : Memory) (e : Entries) → mark ≤ length e.lits → IsResting core m e self.old → IsResting core m (first_entries e mark) self.new }
+        ensures rests { (core : Bool) (m : Memory) (e : Entries) → mark ≤ length e.lits → IsResting core m e self.old → IsResting core m (record e { lits = take mark e.lits }) self.new }
     {
         let kept = fall_to(&mut self.kept, mark);
         self.done = kept as usize;
@@ -204,7 +233,7 @@ fn fall_in(lists: &mut Lists, shade: usize, mark: usize) -> usize
     ensures ahead { lists.new.ahead ≡ [] }
     ensures literals { (r : ℕ) (k : Literal) → listed lists.new r k ≡ listed lists.old r k }
     ensures tallies { (p : Listed → Bool) → tally lists.new [] p ≡ tally lists.old [] p }
-    ensures short { (core : Bool) (m : Memory) (s : List Literal) → AreShortListed core m lists.old (take shade s) → AreShortListed core m lists.new (take result (take mark s)) }
+    ensures short { (core : Bool) (m : Memory) (s : List Literal) (rs : List ℕ) (top : ℕ) → AreShortListed core m lists.old (take shade s) rs top → AreShortListed core m lists.new (take result (take mark s)) rs top }
 {
     if shade <= mark {
         return shade;
@@ -223,6 +252,7 @@ fn unsee(lists: &mut Lists)
     ensures literals { (r : ℕ) (k : Literal) → listed lists.new r k ≡ listed lists.old r k }
     ensures tallies { (p : Listed → Bool) → tally lists.new [] p ≡ tally lists.old [] p }
     ensures unseen { (r : ℕ) → times lists.new r UNSEEN ≡ times lists.old r UNSEEN + times lists.old r SEEN }
+    ensures seen { (r : ℕ) → times lists.new r SEEN ≡ 0 }
 {
     if lists.keys() == 0 {
         return;

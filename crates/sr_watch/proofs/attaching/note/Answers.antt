@@ -15,6 +15,7 @@ returns-then-clause-lt2 g c =
     record {
       lists = refl;
       shade = refl;
+      top = refl;
       less = omega arith;
       rising = c.requires.rising;
       fewer = λ i h. (h, open_guarded (cell_at c.args.memory.now c.args.at).lits (take i c.args.trail.now.lits) (take i c.args.trail.now.lits) (short_open (cell_at c.args.memory.now c.args.at).lits (take i c.args.trail.now.lits) short));
@@ -32,6 +33,7 @@ returns-then-low-len g c =
     record {
       lists = refl;
       shade = refl;
+      top = refl;
       less = omega arith;
       rising = c.requires.rising;
       fewer = λ i h. (h, open_guarded (cell_at c.args.memory.now c.args.at).lits (take i c.args.trail.now.lits) (take i c.args.trail.now.lits) (open_less i c.open_length-low.result (cell_at c.args.memory.now c.args.at).lits c.args.trail.now.lits (omega (arith, le, c.requires.kept_within i h)) o));
@@ -50,6 +52,7 @@ returns-then-high-gt0 g c =
     record {
       lists = refl;
       shade = refl;
+      top = refl;
       less = omega arith;
       rising = c.drop_between.ensures.rising;
       fewer = λ i h. let w = c.drop_between.ensures.fewer i h in (
@@ -78,6 +81,7 @@ returns-then-low-watches g c =
     rw c.hold.ensures.rest (record {
       lists = refl;
       shade = refl;
+      top = refl;
       less = c.hold.ensures.less;
       rising = c.drop_between-2.ensures.rising;
       fewer = λ i h. let q = c.drop_between-2.ensures.fewer i h in let le : i ≤ c.open_length-low.result = fewer_below c.open_length-low.result (length c.lits-len.result.now) i q.1 (omega (arith, n, c.requires.kept_within i q.0)) in
@@ -95,6 +99,7 @@ returns-else-low-watches g c =
     record {
       lists = refl;
       shade = refl;
+      top = refl;
       less = omega arith;
       rising = c.drop_between-2.ensures.rising;
       fewer = λ i h. let q = c.drop_between-2.ensures.fewer i h in let le : i ≤ c.open_length-low.result = fewer_below c.open_length-low.result (length c.lits-len.result.now) i q.1 (omega (arith, n, c.requires.kept_within i q.0)) in

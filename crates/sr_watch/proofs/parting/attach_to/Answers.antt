@@ -1,4 +1,5 @@
-use Rattle.std.proofs.Common.{true, false, subst, length, Some}
+use Rattle.std.proofs.Common.{◌≡◌, true, false, refl, subst, length, Some}
+use Rattle.sr_watch.specs.Watching.{on_side}
 use Rattle.sr_watch.specs.Parting.{IsParted}
 use Rattle.sr_watch.specs.declared.parts.Part.TheVariants.{Core, All}
 use Rattle.sr_watch.proofs.Rooms.{room_for_two}
@@ -36,4 +37,17 @@ returns-clause-watched c known y =
           (subst (λ m. IsParted m c.set_part.new.memory c.args.at (Some Core)) w.memory-is (subst (λ p. IsParted c.match-part.memory c.set_part.new.memory c.args.at (Some p)) w.in-Core.is c.set_part.ensures.parted)) w.enter.ensures.shape w.enter.ensures.rests y)
       | in-All w ↦ rw (w.core-is, w.rest-is) (attached_rest c.args.memory.now w.enter-in-All.new.memory c.set_part.new.memory known c.args.trail.now c.args.core.now c.args.rest.now w.enter-in-All.new.watches c.args.at c.requires.held c.requires.loose (c.requires.watched.2.1 w.in-All.is) w.enter-in-All.ensures.arranged
           (subst (λ m. IsParted m c.set_part.new.memory c.args.at (Some All)) w.memory-is (subst (λ p. IsParted c.match-part.memory c.set_part.new.memory c.args.at (Some p)) w.in-All.is c.set_part.ensures.parted)) w.enter-in-All.ensures.shape w.enter-in-All.ensures.rests y)
+    ]
+
+pub returns-clause-once : goal.returns-clause-once
+returns-clause-once c =
+    elim c.match-part.branch [
+      | in-Core w ↦ rw (w.core-is, w.rest-is) (record {
+        on_core = λ o. w.enter.ensures.once (c.requires.watched.2.0 w.in-Core.is);
+        on_rest = λ o. let z : on_side false c.set_part.new.memory c.args.at ≡ false = rw (c.set_part.ensures.parted.here, w.in-Core.is) refl in absurd cc;
+      })
+      | in-All w ↦ rw (w.core-is, w.rest-is) (record {
+        on_core = λ o. let z : on_side true c.set_part.new.memory c.args.at ≡ false = rw (c.set_part.ensures.parted.here, w.in-All.is) refl in absurd cc;
+        on_rest = λ o. w.enter-in-All.ensures.once (free_rest c.args.memory.now c.args.trail.now c.args.rest.now c.args.at (c.requires.watched.2.1 w.in-All.is) c.requires.loose c.requires.watched.1.rest_rests);
+      })
     ]

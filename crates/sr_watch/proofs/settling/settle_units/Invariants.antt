@@ -3,7 +3,7 @@ use Rattle.sr_watch.proofs.Units.{IsSettling}
 use Rattle.sr_watch.proofs.settling.settle_units.Given as goal
 
 abbrev pub invariant-loop-watch : goal.invariant-loop-watch
-invariant-loop-watch g l = IsSettling l.core l.memory l.fn.lists l.lists l.fn.trail l.trail l.shade
+invariant-loop-watch g l = IsSettling l.core l.memory l.fn.lists l.lists l.fn.trail l.trail l.shade l.top
 
 abbrev pub decreases-loop-watch : goal.decreases-loop-watch
 decreases-loop-watch g l = length l.lists.ahead

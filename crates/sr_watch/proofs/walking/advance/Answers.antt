@@ -26,15 +26,15 @@ returns-then-place-clause-resting g c =
     (λ r. c.requires.resting.guarded r (ap (λ p. is_pending p r) c.requires.prepared.pending))) c.requires.resting
 
 pub returns-in-Some-clause-resting : goal.returns-in-Some-clause-resting
-returns-in-Some-clause-resting g c = walked_rests c.args.core c.args.memory.now c.walk.new.memory c.args.trail.now c.walk.new.trail c.args.watches.now (record c.args.watches.now { lists = c.walk.new.lists }) refl refl refl
-    (omega (arith, c.requires.left, grown_longer c.args.trail.now c.walk.new.trail c.walk.ensures.step.grown)) c.walk.ensures.step c.walk.ensures.keeps c.in-Some.ensures.walked.0 c.requires.prepared c.requires.resting
+returns-in-Some-clause-resting g c = walked_rests c.args.core c.args.memory.now c.walk.new.memory c.args.trail.now c.walk.new.trail c.args.watches.now (record c.args.watches.now { lists = c.walk.new.lists }) refl refl refl refl
+    (omega (arith, c.requires.left, grown_longer c.args.trail.now c.walk.new.trail c.walk.ensures.step.grown)) c.requires.sound.sizes c.walk.ensures.sound c.walk.ensures.step c.walk.ensures.keeps c.in-Some.ensures.walked.0 c.requires.prepared c.requires.resting
 
 pub returns-in-Some-clause-prepared : goal.returns-in-Some-clause-prepared
 returns-in-Some-clause-prepared g c = step_prepared c.args.core c.args.memory.now c.walk.new.memory c.args.trail.now c.walk.new.trail c.args.watches.now (record c.args.watches.now { lists = c.walk.new.lists }) refl c.walk.ensures.step c.requires.prepared
 
 pub returns-clause-resting : goal.returns-clause-resting
-returns-clause-resting g c = walked_rests c.args.core c.args.memory.now c.walk.new.memory c.args.trail.now c.walk.new.trail c.args.watches.now (record c.args.watches.now { lists = c.walk.new.lists; done = c.args.watches.now.done + 1 }) refl refl refl
-    (omega (arith, c.requires.left, grown_longer c.args.trail.now c.walk.new.trail c.walk.ensures.step.grown)) c.walk.ensures.step c.walk.ensures.keeps c.in_default.ensures.walked c.requires.prepared c.requires.resting
+returns-clause-resting g c = walked_rests c.args.core c.args.memory.now c.walk.new.memory c.args.trail.now c.walk.new.trail c.args.watches.now (record c.args.watches.now { lists = c.walk.new.lists; done = c.args.watches.now.done + 1 }) refl refl refl refl
+    (omega (arith, c.requires.left, grown_longer c.args.trail.now c.walk.new.trail c.walk.ensures.step.grown)) c.requires.sound.sizes c.walk.ensures.sound c.walk.ensures.step c.walk.ensures.keeps c.in_default.ensures.walked c.requires.prepared c.requires.resting
 
 pub returns-clause-prepared : goal.returns-clause-prepared
 returns-clause-prepared g c = step_prepared c.args.core c.args.memory.now c.walk.new.memory c.args.trail.now c.walk.new.trail c.args.watches.now (record c.args.watches.now { lists = c.walk.new.lists; done = c.args.watches.now.done + 1 }) refl c.walk.ensures.step c.requires.prepared

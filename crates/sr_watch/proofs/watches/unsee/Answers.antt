@@ -10,6 +10,9 @@ pub returns-then-keys-eq0-clause-unseen : goal.returns-then-keys-eq0-clause-unse
 returns-then-keys-eq0-clause-unseen c r =
     let none : length c.args.lists.now.lists ≡ 0 = omega (arith, c.keys.ensures, c.if-keys-eq0.true) in omega (arith, none_listed c.args.lists.now r SEEN none)
 
+pub returns-then-keys-eq0-clause-seen : goal.returns-then-keys-eq0-clause-seen
+returns-then-keys-eq0-clause-seen c r = none_listed c.args.lists.now r SEEN (omega (arith, c.keys.ensures, c.if-keys-eq0.true))
+
 pub loop-watch-init : goal.loop-watch-init
 loop-watch-init c =
     let some : 0 < length c.args.lists.now.lists = omega (arith, c.keys.ensures, c.if-keys-eq0.false) in
@@ -49,3 +52,12 @@ returns-clause-unseen c =
     let b : IsEnded c.loop-watch.lists c.end.new.self SEEN = subst (λ h. IsEnded h c.end.new.self SEEN) n.1 b0 in
     let x = unseeing_over c.args.lists.now c.loop-watch.lists c.end.new.self c.requires.walked c.loop-watch.invariant (omega (arith, c.requires.both some, c.loop-watch.invariant.keys)) n.0 b in
     x.unseen
+
+pub returns-clause-seen : goal.returns-clause-seen
+returns-clause-seen c =
+    let some : 0 < length c.args.lists.now.lists = omega (arith, c.keys.ensures, c.if-keys-eq0.false) in
+    let n = c.in_default.ensures in
+    let b0 : IsEnded c.next.new.self c.end.new.self SEEN = subst (λ o. IfSome o (λ key. IsEnded c.next.new.self c.end.new.self key)) (ap (λ (f : Family). f.walked) n.1 ∙ c.loop-watch.invariant.at_list) c.end.ensures in
+    let b : IsEnded c.loop-watch.lists c.end.new.self SEEN = subst (λ h. IsEnded h c.end.new.self SEEN) n.1 b0 in
+    let x = unseeing_over c.args.lists.now c.loop-watch.lists c.end.new.self c.requires.walked c.loop-watch.invariant (omega (arith, c.requires.both some, c.loop-watch.invariant.keys)) n.0 b in
+    x.seen

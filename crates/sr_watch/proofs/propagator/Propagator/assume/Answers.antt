@@ -20,6 +20,6 @@ invariant_of-self c = rw c.push.ensures.value (
   c.self.invariant.2,
   c.self.invariant.3,
   c.self.invariant.4,
-  watched_assumed c.self.inside.memory c.self.inside.known.items c.self.inside.trail c.self.inside.core c.self.inside.rest c.args.l 0 c.self.invariant.5,
+  watched_assumed c.self.inside.memory c.self.inside.known.items c.self.inside.trail c.self.inside.core c.self.inside.rest c.args.l c.self.invariant.5,
   c.self.invariant.6,
 )

@@ -49,7 +49,7 @@ invariant_of-self c =
       c.self.invariant.2,
       c.attach_to.ensures.moved.used ∙ c.freshen.ensures.cleared.used ∙ c.self.invariant.3 ∙ sym c.freshen.ensures.cleared.cells ∙ sym c.attach_to.ensures.moved.cells,
       subst (λ v. AreReady c.self.inside.needed.marks v) (sym vars) c.self.invariant.4,
-      taken_watched c.attach_to.new.memory c.self.inside.known.items c.self.inside.trail c.take_over.new.trail c.attach_to.new.core c.attach_to.new.rest c.args.at c.take_over.ensures.taken
+      taken_watched c.attach_to.new.memory c.self.inside.known.items c.self.inside.trail c.take_over.new.trail c.attach_to.new.core c.attach_to.new.rest c.args.at c.take_over.ensures.taken c.attach_to.ensures.once
           (c.attach_to.ensures.watched c.self.inside.known.items (subst (λ ks. AreWatched c.freshen.new.memory ks c.self.inside.trail c.freshen.new.core c.freshen.new.rest) c.deref.ensures.value (c.freshen.ensures.watched c.self.inside.trail
           (subst (λ ks. AreWatched c.self.inside.memory ks c.self.inside.trail c.self.inside.core c.self.inside.rest) (sym c.deref.ensures.value) c.self.invariant.5)))),
       subst (λ n. AreSpares c.attach_to.new.memory n c.take_over.new.spares) (sym vars) c.take_over.ensures.spares,

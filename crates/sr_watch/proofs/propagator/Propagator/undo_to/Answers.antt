@@ -1,7 +1,11 @@
 use Rattle.std.proofs.Common.{◌≤◌, length, subst, sym}
 use Rattle.sr_watch.specs.State.{State}
 use Rattle.sr_watch.proofs.Keeping.{kept_cut}
+use Rattle.sr_watch.proofs.Replacing.{reasons_sound}
 use Rattle.sr_watch.proofs.propagator.Propagator.undo_to.Goals as goal
+
+pub cut-requires-clause-reasons : goal.cut-requires-clause-reasons
+cut-requires-clause-reasons c = reasons_sound c.self.inside.memory c.self.inside.trail c.self.invariant.0.sound
 
 pub invariant_of-self : goal.invariant_of-self
 invariant_of-self c = (
@@ -10,6 +14,6 @@ invariant_of-self c = (
   c.self.invariant.2,
   c.self.invariant.3,
   rw c.cut.ensures.value c.self.invariant.4,
-  c.cut.ensures.watched c.self.inside.memory c.self.inside.known.items c.self.invariant.5,
+  c.cut.ensures.watched c.self.inside.known.items c.self.invariant.5,
   rw c.cut.ensures.value c.self.invariant.6,
 )

@@ -1,4 +1,4 @@
-use Rattle.sr_watch.proofs.reasons.single.Given as goal
+use Rattle.sr_watch.proofs.watches.single.Given as goal
 
 abbrev pub ghosts-single_counted : goal.ghosts-single_counted
 ghosts-single_counted a = record { name = a.blank.name; parts = a.blank.parts }
