@@ -6,6 +6,7 @@ pub mod Indexing
 pub mod Orders
 pub mod Trials
 pub mod Alive
+pub mod Short
 pub mod Trying
 pub mod Turns
 pub mod Lines

@@ -87,9 +87,10 @@ pub fn find_groups<L: Loaded>(
             Trial::Spare => {}
             Trial::Stuck => return Ok(Some(id)),
             Trial::Met => {
-                put_new(loaded, scratch.chain.as_slice(), &mut queue)?;
-                cite_all(loaded, index, scratch.chain.as_slice())?;
-                steps.add_group(id, scratch.chain.as_slice())?;
+                let hints = scratch.chain.as_slice();
+                put_new(loaded, hints, &mut queue)?;
+                cite_all(loaded, index, hints)?;
+                steps.add_group(id, hints)?;
             }
         }
     }

@@ -91,13 +91,13 @@ at-groups hints groups front s t a =
 
 -- one more group
 pub group-laid : (hints more : List ℕ) (groups : List GroupPlace) (front : List StepPlace) (s t : StepPlace) (g : GroupPlace) → s.by_witness ≡ true → t.by_witness ≡ true → t.start ≡ s.start
-    → t.end ≡ length (groups ++ g ∷ []) → g.start ≡ length hints → g.end ≡ length (hints ++ more) → AreLaid hints groups (front ++ s ∷ []) → AreLaid (hints ++ more) (groups ++ g ∷ []) (front ++ t ∷ [])
+    → t.end ≡ length (groups ++ g ∷ []) → g.start ≡ length hints → g.len ≡ length more → AreLaid hints groups (front ++ s ∷ []) → AreLaid (hints ++ more) (groups ++ g ∷ []) (front ++ t ∷ [])
 group-laid hints more groups front s t g w v st en gs ge a =
     let b = hints-laid hints more groups (front ++ s ∷ []) a in
     let r = at-groups (hints ++ more) groups front s w b in
     let le : s.start ≤ t.end = omega (arith, length-append groups (g ∷ []), r.1, r.2) in
     record {
-      within = All-push (IsWithin (length (hints ++ more))) groups g b.within (omega (arith, length-append hints more), omega arith);
+      within = All-push (IsWithin (length (hints ++ more))) groups g b.within (omega (arith, length-append hints more));
       apart = lie-push (length (hints ++ more)) 0 front t s.start (length (groups ++ g ∷ [])) r.0 (rw v (st, le)) (rw v en);
     }
 
@@ -123,7 +123,7 @@ front-same hints more groups others front start l w f = ap reverse (all-kept-sam
     l)
 
 pub group-view : (hints more : List ℕ) (groups : List GroupPlace) (front : List StepPlace) (s t : StepPlace) (g : GroupPlace) → s.by_witness ≡ true → t.by_witness ≡ true → t.id ≡ s.id → t.start ≡ s.start
-    → t.end ≡ length (groups ++ g ∷ []) → g.start ≡ length hints → g.end ≡ length (hints ++ more) → AreLaid hints groups (front ++ s ∷ [])
+    → t.end ≡ length (groups ++ g ∷ []) → g.start ≡ length hints → g.len ≡ length more → AreLaid hints groups (front ++ s ∷ [])
     → steps_in (hints ++ more) (groups ++ g ∷ []) (front ++ t ∷ []) ≡ with_group (g.id, more) (steps_in hints groups (front ++ s ∷ []))
 group-view hints more groups front s t g w v i st en gs ge a =
     let r = at-groups hints groups front s w a in
@@ -132,7 +132,7 @@ group-view hints more groups front s t g w v i st en gs ge a =
     let new : List Group = map (group_of whole) (groups ++ g ∷ []) in
     let all : new ≡ old ++ (g.id, more) ∷ [] =
     map_push (group_of whole) groups g ∙ ap (λ zs. zs ++ group_of whole g ∷ []) (groups-more hints more groups a.within)
-    ∙ ap (λ hs. let z : Group = (g.id, hs) in old ++ z ∷ []) (range-end hints more g.start g.end (sym gs) (omega (arith, length-append hints more))) in
+    ∙ ap (λ hs. let z : Group = (g.id, hs) in old ++ z ∷ []) (range-end hints more g.start (g.start + g.len) (sym gs) (omega arith)) in
     let before : steps_in whole (groups ++ g ∷ []) front ≡ steps_in hints groups front =
     front-same hints more groups (groups ++ g ∷ []) front s.start r.0 a.within (λ i j h k. range-append groups (g ∷ []) i j h (omega (arith, r.1, r.2))) in
     let range : slice_range new t.start t.end ≡ slice_range old s.start s.end ++ (g.id, more) ∷ [] =
@@ -187,7 +187,7 @@ sorted-view hints groups others front s w before moved sorted distinct a =
 
 -- the same of the whole list, at its last step
 pub group-grows : (hints more : List ℕ) (groups : List GroupPlace) (steps : List StepPlace) (s t : StepPlace) (g : GroupPlace) → takes_groups (steps_in hints groups steps) ≡ true
-    → s ≡ get_or steps (length steps - 1) s → t.id ≡ s.id → t.by_witness ≡ s.by_witness → t.start ≡ s.start → t.end ≡ length (groups ++ g ∷ []) → g.start ≡ length hints → g.end ≡ length (hints ++ more)
+    → s ≡ get_or steps (length steps - 1) s → t.id ≡ s.id → t.by_witness ≡ s.by_witness → t.start ≡ s.start → t.end ≡ length (groups ++ g ∷ []) → g.start ≡ length hints → g.len ≡ length more
     → AreLaid hints groups steps
     → AreLaid (hints ++ more) (groups ++ g ∷ []) (set steps (length steps - 1) t)
     × (steps_in (hints ++ more) (groups ++ g ∷ []) (set steps (length steps - 1) t) ≡ with_group (g.id, more) (steps_in hints groups steps))

@@ -72,11 +72,11 @@ pub groups-more : (hints more : List ℕ) (gs : List GroupPlace) → All (IsWith
 groups-more hints more [] a = refl
 groups-more hints more (g ∷ gs) a =
     let here : IsWithin (length hints) g = a 0 g (omega arith) in
-    let one : group_of (hints ++ more) g ≡ group_of hints g = ap (λ hs. let x : Group = (g.id, hs) in x) (range-append hints more g.start g.end here.0 here.1) in
+    let one : group_of (hints ++ more) g ≡ group_of hints g = ap (λ hs. let x : Group = (g.id, hs) in x) (range-append hints more g.start (g.start + g.len) (omega arith) here) in
     ap (λ x. x ∷ map (group_of (hints ++ more)) gs) one ∙ ap (λ xs. group_of hints g ∷ xs) (groups-more hints more gs (All-tail (IsWithin (length hints)) g gs a))
 
 pub within-more : (h k : ℕ) (gs : List GroupPlace) → h ≤ k → All (IsWithin h) gs → All (IsWithin k) gs
-within-more h k gs le a i d m = let x : IsWithin h (get_or gs i d) = a i d m in (x.0, omega (arith, x.1))
+within-more h k gs le a i d m = let x : IsWithin h (get_or gs i d) = a i d m in omega (arith, x)
 
 -- the last one comes first
 pub view-push : {X Y : Type 0} (f : X → Y) (xs : List X) (x : X) → reverse (map f (xs ++ x ∷ [])) ≡ f x ∷ reverse (map f xs)

@@ -1,12 +1,12 @@
 -- Steps in flat lists: each step and each group has the places of its hints.
-use Rattle.std.specs.Prelude.{ℕ, ◌≤◌, ◌≡◌, cond, List, [], ◌∷◌, length, map, reverse, slice_range, All}
+use Rattle.std.specs.Prelude.{ℕ, ◌+◌, ◌≤◌, ◌≡◌, cond, List, [], ◌∷◌, length, map, reverse, slice_range, All}
 use Rattle.sr_model.specs.Meeting.{Group}
 use Rattle.sr_steps.specs.Kept.{Kept}
 use Rattle.sr_steps.specs.declared.table.GroupPlace.{GroupPlace}
 use Rattle.sr_steps.specs.declared.table.StepPlace.{StepPlace}
 
 abbrev pub group_of : List ℕ → GroupPlace → Group
-group_of hints g = (g.id, slice_range hints g.start g.end)
+group_of hints g = (g.id, slice_range hints g.start (g.start + g.len))
 
 -- of a step with a witness the places are those of its groups, of another those of its hints
 abbrev pub kept_of : List ℕ → List Group → StepPlace → Kept
@@ -23,7 +23,7 @@ steps_in hints groups steps = reverse (map (kept_of hints (map (group_of hints) 
 
 -- the hints of a group lie among so many
 abbrev pub IsWithin : ℕ → GroupPlace → Type 0
-IsWithin hints g = (g.start ≤ g.end) × (g.end ≤ hints)
+IsWithin hints g = g.start + g.len ≤ hints
 
 -- where the groups of a step end, if those before it end here
 abbrev pub groups_end : ℕ → StepPlace → ℕ

@@ -1,6 +1,6 @@
 // The steps that a backward pass keeps. There are as many as lemmas, so the hints of all of them stand in one vector, and
 // their groups in another; a step has the places of its own.
-ghost use Rattle.std.specs.Prelude.{◌≡◌, ◌<◌, ◌≤◌, ◌+◌, true, false, [], ◌∷◌, length, take, drop, OnOk, OnErr, slice_index_or, slice_range, ◌-◌};
+ghost use Rattle.std.specs.Prelude.{◌≡◌, ◌<◌, ◌≤◌, ◌+◌, ◌^◌, true, false, [], ◌∷◌, length, take, drop, OnOk, OnErr, slice_index_or, slice_range, ◌-◌};
 ghost use Rattle.std.specs.List.Sorted.{IsPermutation, IsNonDecreasingBy};
 ghost use Rattle.sr_trimming.specs.CoreFirst.{rising};
 ghost use Rattle.sr_steps.specs.Adding.{bare, takes_groups, first_groups, with_group, with_groups, AreOfDistinct};
@@ -9,12 +9,13 @@ use sr_base::{ClauseId, NoMemory};
 use std::alloc::Global;
 use std::marker::Model;
 
-/// The number of a group's clause, and the places where its hints start and end.
+/// The place where a group's hints start, how many there are, and the number of its clause. There may be many more groups than
+/// steps, so a group takes 16 bytes.
 #[derive(Clone, Copy)]
 struct GroupPlace {
-    id: ClauseId,
     start: usize,
-    end: usize,
+    len: u32,
+    id: ClauseId,
 }
 
 /// The number of a step, and the places where its groups start and end, or those of its hints where it has no witness.
@@ -109,7 +110,8 @@ impl StepTable {
 
     /// Adds a group at the end of those of the step that was added last. The table stays as it was where memory lacks.
     pub fn add_group(&mut self, id: ClauseId, hints: &[ClauseId]) -> Result<(), NoMemory>
-        requires { takes_groups self.old ≡ true }
+        requires takes { takes_groups self.old ≡ true }
+        requires small { length hints.now < 2 ^ 32 }
         ensures ok { OnOk result (self.new ≡ with_group (id, hints.now) self.old) }
         ensures err { OnErr result (self.new ≡ self.old) }
     {
@@ -117,8 +119,8 @@ impl StepTable {
         if self.hints.extend_from_slice(hints).is_err() {
             return Err(NoMemory);
         }
-        let end = self.hints.len();
-        if self.groups.push(GroupPlace { id, start, end }).is_err() {
+        let len = hints.len() as u32;
+        if self.groups.push(GroupPlace { start, len, id }).is_err() {
             return Err(NoMemory);
         }
         let last = self.steps.len() - 1;
@@ -202,7 +204,7 @@ impl StepTable {
     {
         let step = place_at(&self.steps, i);
         let group = self.groups[step.start + j];
-        between(&self.hints, group.start, group.end)
+        between(&self.hints, group.start, group.start + group.len as usize)
     }
 }
 

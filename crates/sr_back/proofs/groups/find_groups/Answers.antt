@@ -1,4 +1,4 @@
-use Rattle.std.proofs.Common.{◌≡◌, ◌<◌, ◌||◌, ◌&&◌, not, [], List, ℕ, true, sym, ap, subst, ◌∙◌}
+use Rattle.std.proofs.Common.{◌≡◌, ◌<◌, ◌^◌, ◌||◌, ◌&&◌, not, [], List, ℕ, true, length, get_or, arith, sym, ap, subst, ◌∙◌}
 use Rattle.sr_model.specs.Assignment.{holds_number}
 use Rattle.sr_model.specs.Substitution.{substitution}
 use Rattle.sr_model.specs.Meeting.{Group}
@@ -15,6 +15,7 @@ use Rattle.sr_back.specs.Testing.{steps_in, IsTested, Tells}
 use Rattle.sr_back.specs.Tries.{HasTried, IsQueued}
 use Rattle.sr_back.proofs.Indexing.{alive_positive, alive_high}
 use Rattle.sr_back.proofs.Alive.{lean_live}
+use Rattle.sr_back.proofs.Short.{lean_short}
 use Rattle.sr_back.proofs.Trying.{IsTrying, pending_count, waiting, tells_of, tested_at, waits_alive, spare_falls, met_falls, trying_spare, trying_stuck, trying_met, cites_alive, steps_more, steps_sorted}
 use Rattle.sr_back.proofs.groups.find_groups.Goals as goal
 
@@ -118,8 +119,26 @@ cite_all-requires-clause-alive g c n h =
     let w = waiting old st (steps_in old c.args.steps.now) p gs c.tries.queue c.next.new.self c.in-Some.id tested.1.alive inv.alive t taken in
     let told : Tells st (assumed p) (moves p) w.0 c.try_clause.new.chain Met = tells_of old st c.args.lemma c.args.own.now c.args.steps.now p c.in-Some.id w.0 c.try_clause.new.chain Met tested.1 inv.same c.requires.witness w.1.of_all
     (λ b d v a s i f. subst (Tells st b (substitution v) d c.try_clause.new.chain) c.in-Met.is (c.in_ok-try_clause.ensures.tells b d v a s i f)) in
-    let chain : holds_number n c.try_clause.new.chain ≡ true = subst (λ ns. holds_number n ns ≡ true) c.as_slice-in-Met.ensures h in
+    let chain : holds_number n c.try_clause.new.chain ≡ true = subst (λ ns. holds_number n ns ≡ true) c.as_slice-hints.ensures h in
     subst (λ x. holds_number n (numbers (alive_in x)) ≡ true) (sym c.in_ok-try_clause.ensures.kept) (lean_live (alive_in st) _ c.try_clause.new.chain n told.1.lean chain)
+
+pub add_group-requires-clause-small : goal.add_group-requires-clause-small
+add_group-requires-clause-small g c =
+    let old = g.L.Loaded.state c.args.loaded.now in
+    let st = g.L.Loaded.state c.tries.loaded in
+    let inv = c.tries.invariant in
+    let tested = c.requires.tested in
+    let p : Place = tested.0 in
+    let gs : List Group = first_groups c.tries.steps in
+    let taken : Puts c.next.new.self c.tries.queue c.in-Some.id = c.in-Some.ensures.taken in
+    let t : IsTrying old st (steps_in old c.args.steps.now) p gs c.tries.queue = inv.trying p tested.1 in
+    let w = waiting old st (steps_in old c.args.steps.now) p gs c.tries.queue c.next.new.self c.in-Some.id tested.1.alive inv.alive t taken in
+    let told : Tells st (assumed p) (moves p) w.0 c.try_clause.new.chain Met = tells_of old st c.args.lemma c.args.own.now c.args.steps.now p c.in-Some.id w.0 c.try_clause.new.chain Met tested.1 inv.same c.requires.witness w.1.of_all
+    (λ b d v a s i f. subst (Tells st b (substitution v) d c.try_clause.new.chain) c.in-Met.is (c.in_ok-try_clause.ensures.tells b d v a s i f)) in
+    let is : c.as_slice-hints.result.now ≡ c.try_clause.new.chain = c.as_slice-hints.ensures in
+    subst (λ hs. length hs < 2 ^ 32) (sym is) (lean_short (alive_in st) _ c.try_clause.new.chain (2 ^ 32) told.1.lean
+    (λ n h. alive_positive st n (lean_live (alive_in st) _ c.try_clause.new.chain n told.1.lean h))
+    (λ i. subst (λ hs. get_or hs i 0 < 2 ^ 32) is (search (arith, c.type_inv.hints i))) (omega arith))
 
 pub tries-smaller : goal.tries-smaller
 tries-smaller g c =
@@ -135,11 +154,10 @@ tries-smaller g c =
     let new = g.L.Loaded.state c.cite_all.new.loaded in
     let mid = g.L.Loaded.state c.try_clause.new.loaded in
     let same : mid ≡ st = c.in_ok-try_clause.ensures.kept in
-    let cites : CitesAll st new c.as_slice-in-Met.result.now = subst (λ x. CitesAll x new c.as_slice-in-Met.result.now) same c.in_ok-cite_all-in-Met.ensures.cites in
-    let slices : c.as_slice.result.now ≡ c.as_slice-in-Met.result.now = c.as_slice.ensures ∙ sym c.as_slice-in-Met.ensures in
+    let cites : CitesAll st new c.as_slice-hints.result.now = subst (λ x. CitesAll x new c.as_slice-hints.result.now) same c.in_ok-cite_all-in-Met.ensures.cites in
     let less : pending_count new.cited c.put_new.new.queue (alive_in new) < pending_count st.cited c.tries.queue (alive_in st) =
-    met_falls st new p gs c.tries.queue c.next.new.self c.put_new.new.queue c.as_slice-in-Met.result.now c.in-Some.id inv.alive t.queued taken least cites
-    (λ m. c.in_ok-put_new-in-Met.ensures m ∙ ap (λ ns. holds_number m c.next.new.self || (holds_number m ns && not (holds_number m mid.cited))) slices ∙ ap (λ x. holds_number m c.next.new.self || (holds_number m c.as_slice-in-Met.result.now && not (holds_number m x.cited))) same) in
+    met_falls st new p gs c.tries.queue c.next.new.self c.put_new.new.queue c.as_slice-hints.result.now c.in-Some.id inv.alive t.queued taken least cites
+    (λ m. c.in_ok-put_new-in-Met.ensures m ∙ ap (λ x. holds_number m c.next.new.self || (holds_number m c.as_slice-hints.result.now && not (holds_number m x.cited))) same) in
     less
 
 pub tries-preserved : goal.tries-preserved
@@ -150,13 +168,13 @@ tries-preserved g c =
     let new = g.L.Loaded.state c.cite_all.new.loaded in
     let inv = c.tries.invariant in
     let same : mid ≡ st = c.in_ok-try_clause.ensures.kept in
-    let chain : c.as_slice-in-Met.result.now ≡ c.try_clause.new.chain = c.as_slice-in-Met.ensures in
-    let cites : CitesAll st new c.try_clause.new.chain = subst (CitesAll st new) chain (subst (λ x. CitesAll x new c.as_slice-in-Met.result.now) same c.in_ok-cite_all-in-Met.ensures.cites) in
+    let chain : c.as_slice-hints.result.now ≡ c.try_clause.new.chain = c.as_slice-hints.ensures in
+    let cites : CitesAll st new c.try_clause.new.chain = subst (CitesAll st new) chain (subst (λ x. CitesAll x new c.as_slice-hints.result.now) same c.in_ok-cite_all-in-Met.ensures.cites) in
     let put : (m : ℕ) → holds_number m c.put_new.new.queue ≡ (holds_number m c.next.new.self || (holds_number m c.try_clause.new.chain && not (holds_number m st.cited))) = λ m.
-    c.in_ok-put_new-in-Met.ensures m ∙ ap (λ ns. holds_number m c.next.new.self || (holds_number m ns && not (holds_number m mid.cited))) c.as_slice.ensures
+    c.in_ok-put_new-in-Met.ensures m ∙ ap (λ ns. holds_number m c.next.new.self || (holds_number m ns && not (holds_number m mid.cited))) c.as_slice-hints.ensures
     ∙ ap (λ x. holds_number m c.next.new.self || (holds_number m c.try_clause.new.chain && not (holds_number m x.cited))) same in
     let more = steps_more c.tries.steps c.add_group.new.self c.args.steps.now c.args.lemma (c.in-Some.id, c.try_clause.new.chain) inv.steps
-    (c.in_ok-add_group-in-Met.ensures.ok ∙ ap (λ ns. with_group (c.in-Some.id, ns) c.tries.steps) c.as_slice-in-Met-2.ensures) in
+    (c.in_ok-add_group-in-Met.ensures.ok ∙ ap (λ ns. with_group (c.in-Some.id, ns) c.tries.steps) c.as_slice-hints.ensures) in
     let gs : List Group = first_groups c.tries.steps in
     let taken : Puts c.next.new.self c.tries.queue c.in-Some.id = c.in-Some.ensures.taken in
     let tested = c.requires.tested in
