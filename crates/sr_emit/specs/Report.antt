@@ -1,11 +1,14 @@
--- The report on standard output. Parts of a line are parted by one space, and a line feed ends it.
+-- The report on standard output: statistics or a reason, and a last line; or help. A space parts the parts of a line, a line feed ends it.
 use Rattle.std.specs.Prelude.{ℕ, ◌≡◌, Bool, if◌then◌else◌, List, [], ◌∷◌, ◌++◌, Option, Some, None, codes, decimal}
+use Rattle.sr_emit.specs.FileNames.{Names}
+use Rattle.sr_emit.specs.Help.{help_text}
+use Rattle.sr_emit.specs.Reasons.{reason_of}
 use Rattle.sr_emit.specs.Names.{which_name, text_name, limit_name, usage_name, cause_text}
 use Rattle.sr_emit.specs.declared.counts.Counts.{Counts}
 use Rattle.sr_emit.specs.declared.report.Command.{Command}
 use Rattle.sr_emit.specs.declared.report.Command.TheVariants.{Check, Trim, Demo}
 use Rattle.sr_emit.specs.declared.outcome.Outcome.{Outcome}
-use Rattle.sr_emit.specs.declared.outcome.Outcome.TheVariants.{Verified, RejectedStep, RejectedLemma, NoEmptyClause, Usage, Text, Limit, SourceFault, SinkFault, NoMemory}
+use Rattle.sr_emit.specs.declared.outcome.Outcome.TheVariants.{Verified, RejectedStep, RejectedLemma, NoEmptyClause, Usage, Text, Limit, SourceFault, SinkFault, NoMemory, Helped}
 
 abbrev pub space : List ℕ
 space = 32 ∷ []
@@ -27,7 +30,7 @@ rejected_lemma_line lemma against = codes "s REJECTED lemma " ++ decimal lemma +
 abbrev pub verified_line : List ℕ
 verified_line = codes "s VERIFIED UNSAT\n"
 
--- the last line; a fault of writing and want of memory print none
+-- the last line; a fault of writing and want of memory print none, and help is a text of its own
 abbrev pub last_line : Outcome → List ℕ
 last_line Verified = verified_line
 last_line (RejectedStep id cause) = rejected_line id (cause_text cause)
@@ -39,6 +42,7 @@ last_line (Limit which kind) = codes "e limit " ++ which_name which ++ space ++ 
 last_line (SourceFault which) = codes "e source " ++ which_name which ++ line_end
 last_line (SinkFault which) = []
 last_line NoMemory = []
+last_line (Helped topic) = help_text topic
 
 abbrev pub count_line : List ℕ → ℕ → List ℕ
 count_line name n = codes "c " ++ name ++ space ++ decimal n ++ line_end
@@ -64,10 +68,14 @@ statistics_of Trim (Some k) Verified = trim_lines k
 statistics_of (Demo holes stats) (Some k) Verified = demo_lines holes stats k
 statistics_of command counts outcome = []
 
-abbrev pub report : Command → Option Counts → Outcome → List ℕ
-report command counts outcome = statistics_of command counts outcome ++ last_line outcome
+abbrev pub report : Command → Names → Option Counts → Outcome → List ℕ
+report command names counts outcome = statistics_of command counts outcome ++ reason_of command names outcome ++ last_line outcome
+
+-- the report of a verified run, whatever its files are called
+abbrev pub IsVerifiedReport : Command → Option Counts → List ℕ → Type 0
+IsVerifiedReport command counts bytes = (names : Names) → bytes ≡ report command names counts Verified
 
 -- a report of which a prefix ends with the line of a verified run is the report of one
 abbrev pub OnlyVerifiedSaysSo : Type 0
-OnlyVerifiedSaysSo = (command : Command) (counts : Option Counts) (outcome : Outcome) (before rest : List ℕ)
-    → report command counts outcome ≡ before ++ verified_line ++ rest → outcome ≡ Verified
+OnlyVerifiedSaysSo = (command : Command) (names : Names) (counts : Option Counts) (outcome : Outcome) (before rest : List ℕ)
+    → report command names counts outcome ≡ before ++ verified_line ++ rest → outcome ≡ Verified

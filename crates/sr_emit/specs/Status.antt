@@ -1,7 +1,7 @@
 -- The status of the process.
 use Rattle.std.specs.Prelude.{ℕ, Bool, true, false}
 use Rattle.sr_emit.specs.declared.outcome.Outcome.{Outcome}
-use Rattle.sr_emit.specs.declared.outcome.Outcome.TheVariants.{Verified, RejectedStep, RejectedLemma, NoEmptyClause, Usage, Text, Limit, SourceFault, SinkFault, NoMemory}
+use Rattle.sr_emit.specs.declared.outcome.Outcome.TheVariants.{Verified, RejectedStep, RejectedLemma, NoEmptyClause, Usage, Text, Limit, SourceFault, SinkFault, NoMemory, Helped}
 
 abbrev pub is_verified : Outcome → Bool
 is_verified Verified = true
@@ -18,3 +18,4 @@ status_of (Limit which kind) = 4
 status_of (SourceFault which) = 5
 status_of (SinkFault which) = 6
 status_of NoMemory = 7
+status_of (Helped topic) = 0

@@ -2,6 +2,7 @@
 ghost use Rattle.std.specs.Prelude.{◌≡◌};
 ghost use Rattle.sr_emit.specs.Status.{is_verified, status_of};
 
+use crate::topic::Topic;
 use sr_base::{Cause, ClauseId, LimitKind, TextKind, Which};
 
 /// Why the words of the command line are refused.
@@ -58,6 +59,8 @@ pub enum Outcome {
     },
     /// Memory ran out.
     NoMemory,
+    /// Help was asked for, and is shown.
+    Helped(Topic),
 }
 
 impl Outcome {
@@ -68,7 +71,7 @@ impl Outcome {
         matches!(self, Outcome::Verified)
     }
 
-    /// The status with which the process ends: 0 verified, 1 rejected, 2 the words, 3 a text, 4 a limit, 5 reading,
+    /// The status with which the process ends: 0 verified or help, 1 rejected, 2 the words, 3 a text, 4 a limit, 5 reading,
     /// 6 writing, 7 memory.
     pub fn status(self) -> u8
         ensures { result ≡ status_of self }
@@ -84,6 +87,7 @@ impl Outcome {
             Outcome::SourceFault { .. } => 5,
             Outcome::SinkFault { .. } => 6,
             Outcome::NoMemory => 7,
+            Outcome::Helped(_) => 0,
         }
     }
 }

@@ -1,10 +1,15 @@
-// The report on standard output: the lines of `--stats` where verified, and a last line for each outcome.
+// The report on standard output: the lines of `--stats` where verified, a reason where not, and a last line for each outcome.
 ghost use Rattle.std.specs.Prelude.{◌≡◌, ◌++◌, IfOk, string_bytes, option_map, decimal};
-ghost use Rattle.sr_emit.specs.Report.{report, rejected_line, rejected_lemma_line, last_line, count_line, check_lines, trim_lines, short_lines, demo_lines, statistics_of};
+ghost use Rattle.sr_emit.specs.Report.{report, IsVerifiedReport, rejected_line, rejected_lemma_line, last_line, count_line, check_lines, trim_lines, short_lines, demo_lines, statistics_of};
+ghost use Rattle.sr_emit.specs.FileNames.{names_of};
 
 use crate::counts::Counts;
+use crate::files::FileNames;
+use crate::help::help_of;
 use crate::names::{name_of_limit, name_of_text, name_of_usage, name_of_which, text_of_cause};
 use crate::outcome::Outcome;
+use crate::reasons::{bytes_of, reason};
+use crate::topic::{Flaw, Topic};
 use sr_base::{ByteList, ClauseId, NoMemory};
 use std::alloc::{AllocError, Global};
 
@@ -15,8 +20,10 @@ pub enum Command {
     Trim,
     /// `demo` with so many holes, and whether all counts are asked for.
     Demo { holes: u32, stats: bool },
-    /// None that is known.
-    Other,
+    /// Help is asked for.
+    Help,
+    /// The words are refused: the topic whose usage is shown, and what is wrong with them.
+    Refused { topic: Topic, flaw: Flaw },
 }
 
 /// The bytes of the report. `counts` are given where statistics are asked for, and always for `demo`; they are printed where the
@@ -24,39 +31,42 @@ pub enum Command {
 pub fn report_bytes(
     alloc: Global,
     command: Command,
+    names: &FileNames<'_>,
     counts: Option<&Counts>,
     outcome: &Outcome,
 ) -> Result<ByteList, NoMemory>
-    ensures { IfOk result (λ b. b ≡ report command (option_map (λ c. c.now) counts.entry) outcome.now) }
+    ensures { IfOk result (λ b. b ≡ report command (names_of names.now) (option_map (λ c. c.now) counts.entry) outcome.now) }
 {
-    match lines(alloc, command, counts, outcome) {
-        Ok(text) => bytes_of(alloc, text.as_bytes()),
-        Err(_) => Err(NoMemory),
-    }
-}
-
-fn bytes_of(alloc: Global, text: &[u8]) -> Result<ByteList, NoMemory>
-    ensures { IfOk result (λ b. b ≡ text.now) }
-{
-    let mut bytes = ByteList::new(alloc);
-    for byte in text {
-        bytes.push(*byte)?;
-    }
+    let Ok(statistics) = statistics(alloc, command, counts, outcome) else {
+        return Err(NoMemory);
+    };
+    let Ok(last) = last_of(alloc, outcome) else {
+        return Err(NoMemory);
+    };
+    let reason = reason(alloc, command, names, outcome)?;
+    let mut bytes = bytes_of(alloc, statistics.as_str())?;
+    bytes.extend(reason.as_slice())?;
+    bytes.extend(last.as_bytes())?;
     Ok(bytes)
 }
 
-fn lines(
+/// The bytes of the report of a verified run. They don't depend on the names of the files, since such a run has no reason.
+pub fn verified_bytes(
     alloc: Global,
     command: Command,
     counts: Option<&Counts>,
-    outcome: &Outcome,
-) -> Result<String, AllocError>
-    ensures { IfOk result (λ s. string_bytes s ≡ report command (option_map (λ c. c.now) counts.entry) outcome.now) }
+) -> Result<ByteList, NoMemory>
+    ensures { IfOk result (IsVerifiedReport command (option_map (λ c. c.now) counts.entry)) }
 {
-    let mut text = statistics(alloc, command, counts, outcome)?;
-    let last = last_of(alloc, outcome)?;
-    text.push_str(last.as_str())?;
-    Ok(text)
+    let Ok(statistics) = statistics(alloc, command, counts, &Outcome::Verified) else {
+        return Err(NoMemory);
+    };
+    let Ok(last) = last_of(alloc, &Outcome::Verified) else {
+        return Err(NoMemory);
+    };
+    let mut bytes = bytes_of(alloc, statistics.as_str())?;
+    bytes.extend(last.as_bytes())?;
+    Ok(bytes)
 }
 
 fn statistics(
@@ -147,7 +157,7 @@ fn count_line(alloc: Global, name: &str, count: u64) -> Result<String, AllocErro
     Ok(text)
 }
 
-fn digits(alloc: Global, n: u64) -> Result<String, AllocError>
+pub(crate) fn digits(alloc: Global, n: u64) -> Result<String, AllocError>
     ensures { IfOk result (λ s. string_bytes s ≡ decimal n) }
 {
     format!(in alloc; "{n}")
@@ -219,5 +229,6 @@ fn last_of(alloc: Global, outcome: &Outcome) -> Result<String, AllocError>
         }
         Outcome::SinkFault { .. } => Ok(String::new(alloc)),
         Outcome::NoMemory => Ok(String::new(alloc)),
+        Outcome::Helped(topic) => help_of(alloc, *topic),
     }
 }
