@@ -1,6 +1,5 @@
 -- From reading, passing and writing to what `trim` finds.
-use Rattle.std.proofs.Common.{◌≡◌, ◌∙◌, ◌⊎◌, inl, inr, ◌≤◌, ℕ, Bool, true, false, List, Some, Ok, refl, sym, subst, length}
-use Rattle.std.specs.Prelude.{Option, option_map, is_some, nat_lt, ◌&&◌}
+use Rattle.std.proofs.Common.{◌≡◌, ◌∙◌, ◌⊎◌, inl, inr, ◌≤◌, Bool, true, false, List, Some, Ok, refl, sym, subst}
 use Rattle.sr_base.specs.declared.names.Which.TheVariants as which
 use Rattle.sr_base.specs.declared.names.LimitKind.TheVariants.{Bytes}
 use Rattle.sr_model.specs.Dimacs.{Formula}

@@ -3,3 +3,4 @@ pub mod Opened
 pub mod Found
 pub mod Passed
 pub mod Wrote
+pub mod Unverified

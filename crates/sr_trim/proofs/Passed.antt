@@ -1,6 +1,6 @@
 -- From a whole pass to what is written of it.
-use Rattle.std.proofs.Common.{◌≡◌, ◌∙◌, ◌⊎◌, ◌↔◌, ◌++◌, inl, inr, ◌+◌, ℕ, Bool, suc, true, false, List, [], ◌∷◌, Option, None, Ok, Err, refl, sym, ap, subst, arith, length}
-use Rattle.std.specs.Prelude.{◌<◌, ◌≤◌, min, is_some, nat_lt, Some, ◌&&◌, ◌||◌, sum_by, All}
+use Rattle.std.proofs.Common.{◌≡◌, ◌∙◌, ◌⊎◌, ◌↔◌, ◌++◌, inr, ◌+◌, ℕ, Bool, suc, true, false, List, [], ◌∷◌, None, refl, sym, ap, subst, arith, length}
+use Rattle.std.specs.Prelude.{◌≤◌, is_some, nat_lt, Some, ◌&&◌, ◌||◌, sum_by, All}
 use Rattle.std.proofs.lemmas.Bool.Decides.{nat_tests}
 use Rattle.std.proofs.lemmas.List.{map-append, length-map}
 use Rattle.std.proofs.lemmas.List.Sums.{sum_by-append}
@@ -33,12 +33,11 @@ use Rattle.sr_placing.specs.Counting as kept
 use Rattle.sr_placing.proofs.Placings.{hints_are}
 use Rattle.sr_load.specs.Loading.{lemmas_in, passed_in}
 use Rattle.sr_load.specs.Loaded.{LoadedState, all_lines}
-use Rattle.sr_emit.specs.declared.outcome.Outcome.{Outcome}
 use Rattle.sr_emit.specs.declared.outcome.Outcome.TheVariants as outcome
 use Rattle.sr_emit.specs.declared.counts.Counts.{Counts}
 use Rattle.sr_trim.specs.Said.{TrimSaid}
-use Rattle.sr_trim.specs.Trimming.{IsTrimming, lsr_text, core_text, group_hints, step_hints, counted, trim_counts}
-use Rattle.sr_trim.specs.Deciding.{stops, trims, by_length, passes_lsr, passes_core, ByPass}
+use Rattle.sr_trim.specs.Trimming.{IsTrimming, core_text, group_hints, step_hints, counted, trim_counts}
+use Rattle.sr_trim.specs.Deciding.{stops, trims, passes_lsr, passes_core, ByPass}
 use Rattle.sr_trim.specs.Passing.{kept_steps, IsWritable, PassesLimit}
 
 -- what steps cite

@@ -1,12 +1,11 @@
 -- From the calls on the files that are written to what is left.
-use Rattle.std.proofs.Common.{◌≡◌, ◌∙◌, ◌⊎◌, inl, inr, ℕ, true, List, Option, Ok, Err, refl, sym, ap, subst}
+use Rattle.std.proofs.Common.{◌≡◌, ◌∙◌, inl, inr, ℕ, true, List, Option, Ok, Err, refl, sym, ap, subst}
 use Rattle.std.specs.Prelude.{option_map}
 use Rattle.sr_base.specs.declared.names.Which.TheVariants as which
 use Rattle.sr_model.specs.Dimacs.{Formula}
 use Rattle.sr_model.specs.Meeting.{Step}
-use Rattle.sr_desk.specs.Outside.{Outside, SlotState, Rose}
+use Rattle.sr_desk.specs.Outside.{Outside, Rose}
 use Rattle.sr_desk.specs.Calls.{BeginsWrite}
-use Rattle.sr_desk.specs.declared.slot.Slot.{Slot}
 use Rattle.sr_files.specs.Written.{IsCutOff}
 use Rattle.sr_emit.specs.declared.outcome.Outcome.{Outcome}
 use Rattle.sr_emit.specs.declared.outcome.Outcome.TheVariants as outcome
@@ -50,6 +49,7 @@ verified_is (outcome.Limit which kind) e = absurd cc
 verified_is (outcome.SourceFault which) e = absurd cc
 verified_is (outcome.SinkFault which) e = absurd cc
 verified_is outcome.NoMemory e = absurd cc
+verified_is (outcome.Helped topic) e = absurd cc
 
 -- the core is that of the steps as they are written
 asked_same : (s : TrimSaid) (f : Formula) (ss ts : List Step) → AreStepsRewritten ss ts → asked_core s f ss ≡ asked_core s f ts

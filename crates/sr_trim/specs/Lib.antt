@@ -5,3 +5,4 @@ pub mod Outputs
 pub mod Finding
 pub mod Lines
 pub mod Passing
+pub mod Reporting

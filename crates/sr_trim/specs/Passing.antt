@@ -2,7 +2,6 @@
 use Rattle.std.specs.Prelude.{◌≡◌, ◌≤◌, ◌⊎◌, Option, Some, None, List, All, Result, Ok, Err}
 use Rattle.sr_base.specs.Limits.{LimitValues}
 use Rattle.sr_base.specs.declared.names.Which.{Which}
-use Rattle.sr_base.specs.declared.names.Which.TheVariants as which
 use Rattle.sr_base.specs.declared.names.LimitKind.TheVariants.{Bytes}
 use Rattle.sr_model.specs.Dimacs.{Formula}
 use Rattle.sr_model.specs.Meeting.{Step}

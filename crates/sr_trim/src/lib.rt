@@ -5,9 +5,11 @@ mod loading;
 mod passing;
 mod reading;
 mod ready;
+mod reporting;
 mod trim;
 mod words;
 mod writing;
 
+pub use reporting::Wanted;
 pub use trim::{Trimmed, trim_between, trim_files};
 pub use words::TrimWords;

@@ -1,5 +1,6 @@
 // Loading a proof up to the line at which its clauses conflict.
-ghost use Rattle.std.specs.Prelude.{◌≡◌, []};
+ghost use Rattle.std.specs.Prelude.{◌≡◌, [], false, IfErr};
+ghost use Rattle.sr_emit.specs.Status.{is_verified};
 ghost use Rattle.sr_model.specs.Dsr.{LineHasPivot};
 ghost use Rattle.sr_trimming.specs.Loading.{going_on, at_start, StopsAfter};
 ghost use Rattle.sr_desk.specs.Outside.{OnlyReads};
@@ -69,6 +70,7 @@ pub fn load_lines<D: Desk>(
     ensures loads { LoadsTo limits.now (trim_said words.now) loader.formula reader (D.outside desk.new) result }
     ensures only { OnlyReads reader.slot (D.outside desk.old) (D.outside desk.new) }
     ensures cause { HasErrCause Which.Proof reader.slot (D.outside desk.old) (D.outside desk.new) result }
+    ensures unverified { IfErr result (λ o. is_verified o ≡ false) }
 {
     let Ok(mut lines) = LineReader::new(alloc, words.proof_form, reader) else {
         return Err(Outcome::NoMemory);

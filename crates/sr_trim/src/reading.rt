@@ -1,5 +1,6 @@
 // Reading the formula and the proof.
-ghost use Rattle.std.specs.Prelude.{◌≡◌, ◌≤◌, [], IfOk};
+ghost use Rattle.std.specs.Prelude.{◌≡◌, ◌≤◌, [], IfErr, false};
+ghost use Rattle.sr_emit.specs.Status.{is_verified};
 ghost use Rattle.sr_trimming.specs.Loading.{going_on, at_start, StopsAfter};
 ghost use Rattle.sr_files.specs.Files.{ReadsSlots, ReadsFiles, GivesFile};
 ghost use Rattle.sr_trim.specs.Said.{trim_said};
@@ -31,6 +32,7 @@ fn load_proof<D: Desk>(
     ensures slots { ReadsSlots 2 (D.outside desk.old) (D.outside desk.new) }
     ensures file { GivesFile 1 words.now.proof.now (D.outside desk.old) (D.outside desk.new) }
     ensures cause { HasErrCause Which.Proof 1 (D.outside desk.old) (D.outside desk.new) result }
+    ensures unverified { IfErr result (λ o. is_verified o ≡ false) }
 {
     match open_file(alloc, limits, desk, words.proof) {
         Err(error) => Err(outcome_of(Which::Proof, error)),
@@ -51,6 +53,7 @@ fn load_clauses<D: Desk>(
     ensures slots { ReadsFiles (D.outside desk.old) (D.outside desk.new) }
     ensures file { 2 ≤ (D.outside desk.new).begun → GivesFile 1 words.now.proof.now (D.outside desk.old) (D.outside desk.new) }
     ensures cause { HasLoadCause (D.outside desk.old) (D.outside desk.new) result }
+    ensures unverified { IfErr result (λ o. is_verified o ≡ false) }
 {
     match Loader::new(alloc, formula, limits, words.keep_units) {
         Ok(loader) => match loader.state() {
@@ -80,6 +83,7 @@ pub fn load_files<D: Desk>(
     ensures formula { GivesFile 0 words.now.formula.now (D.outside desk.old) (D.outside desk.new) }
     ensures file { 2 ≤ (D.outside desk.new).begun → GivesFile 1 words.now.proof.now (D.outside desk.old) (D.outside desk.new) }
     ensures cause { HasLoadCause (D.outside desk.old) (D.outside desk.new) result }
+    ensures unverified { IfErr result (λ o. is_verified o ≡ false) }
 {
     match load_formula(alloc, limits, desk, words.formula) {
         Err(error) => Err(outcome_of(Which::Formula, error)),

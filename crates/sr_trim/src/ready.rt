@@ -1,5 +1,5 @@
 // What may be written of a loaded proof.
-ghost use Rattle.std.specs.Prelude.{◌≡◌, ℕ, List, All, nat_lt};
+ghost use Rattle.std.specs.Prelude.{◌≡◌, ℕ, List, All, nat_lt, IfOk};
 ghost use Rattle.sr_base.specs.Literal.{NoRepeats};
 ghost use Rattle.sr_model.specs.Meeting.{Step};
 ghost use Rattle.sr_load.specs.Loaded.{all_lines};
@@ -11,9 +11,11 @@ ghost use Rattle.sr_placing.specs.Counting.{counted};
 ghost use Rattle.sr_trim.specs.Trimming.{trim_counts};
 ghost use Rattle.sr_trim.specs.Deciding.{passes_lsr, passes_core};
 ghost use Rattle.sr_trim.specs.Passing.{kept_steps, IsWritable, IsPlaced, Prepares, PassesLimit};
+ghost use Rattle.sr_trim.specs.Reporting.{IsWanted};
 
+use crate::reporting::{Wanted, make_report};
 use crate::words::TrimWords;
-use sr_base::{LimitKind, Limits, Which};
+use sr_base::{ByteList, LimitKind, Limits, Which};
 use sr_emit::{Counts, Outcome};
 use sr_load::Loaded;
 use sr_placing::{Buffer, Placing, core_length, lsr_length, statistics};
@@ -29,6 +31,8 @@ pub struct Ready {
     /// Room to write through.
     pub buffer: Buffer,
     pub counts: Counts,
+    /// The report of the run, where its files are written whole.
+    pub report: ByteList,
 }
 
 /// Whether so many bytes, which are counted up to 2^64 - 1, pass the limit.
@@ -124,7 +128,8 @@ fn count<L: Loaded>(
     }
 }
 
-/// Places kept steps, of a proof of so many lemmas, with so many deletions of nothing. After this no memory is taken.
+/// Places kept steps, of a proof of so many lemmas, with so many deletions of nothing, and makes the report. After this no
+/// memory is taken.
 pub fn prepare<L: Loaded>(
     alloc: Global,
     limits: &Limits,
@@ -133,11 +138,13 @@ pub fn prepare<L: Loaded>(
     steps: StepTable,
     lemmas: u32,
     passed: u64,
+    wanted: Wanted,
 ) -> Result<Ready, Outcome>
     requires writable { IsWritable (L.state loaded.now) steps }
     requires lemmas { lemmas ≡ lemmas_in (all_lines (L.state loaded.now)) }
     requires passed { passed ≡ passed_in (all_lines (L.state loaded.now)) }
-    ensures { Prepares limits.now (trim_said words.now) (L.state loaded.now) result }
+    ensures prepares { Prepares limits.now (trim_said words.now) (L.state loaded.now) result }
+    ensures report { IfOk result (λ r. IsWanted wanted r.counts r.report) }
 {
     let Ok(placing) = Placing::new(alloc, loaded, &steps) else {
         return Err(Outcome::NoMemory);
@@ -152,10 +159,14 @@ pub fn prepare<L: Loaded>(
             kind: LimitKind::Bytes,
         });
     }
+    let Ok(report) = make_report(alloc, wanted, &counts) else {
+        return Err(Outcome::NoMemory);
+    };
     Ok(Ready {
         steps,
         placing,
         buffer,
         counts,
+        report,
     })
 }

@@ -135,6 +135,7 @@ pub fn write_files<L: Loaded, D: Desk>(
         (trim_said words.now).core (asked_core (trim_said words.now) (L.state loaded.now).formula ts)
         (D.outside desk.old) (D.outside desk.new) result }
     ensures counts { ready.new.counts ≡ ready.old.counts }
+    ensures report { ready.new.report ≡ ready.old.report }
 {
     let outcome = write_lsr_asked(
         desk,

@@ -15,6 +15,8 @@ use Rattle.sr_emit.specs.declared.outcome.Outcome.{Outcome}
 use Rattle.sr_trim.specs.Said.{trim_said}
 use Rattle.sr_trim.specs.Lines.{Standing, LoadsTo}
 use Rattle.sr_trim.proofs.Standings.{standing_first, standing_more, standing_conflicts, standing_ends, standing_fault, standing_none}
+use Rattle.sr_base.specs.declared.names.Which.TheVariants as which
+use Rattle.sr_trim.proofs.Unverified.{unread, unread_cause}
 use Rattle.sr_trim.proofs.loading.load_lines.Goals as goal
 
 -- what a reader of this form gave
@@ -75,6 +77,14 @@ returns-in-Err-clause-loads g c =
     subst (λ (o : Outcome). LoadsTo c.args.limits.now (trim_said c.args.words.now) c.args.loader.formula c.args.reader (g.D.Desk.outside c.next.new.desk) (Err o)) (sym c.outcome_of.ensures)
     (standing_fault c.args.limits.now (trim_said c.args.words.now) c.args.loader.formula c.args.reader c.lines.lines.reader c.next.new.self.reader (g.D.Desk.outside c.lines.desk) (g.D.Desk.outside c.next.new.desk) c.lines.loader
     (g.D.Desk.outside c.args.desk.now) _ c.in-Err.error c.lines.invariant.standing c.lines.invariant.reads c.in-Err.ensures.reads (of_err c.args.limits.now c.lines.lines.reader c.next.new.self.reader (g.D.Desk.outside c.next.new.desk) c.lines.lines.form c.args.words.now.proof_form c.in-Err.error c.lines.invariant.form c.in-Err.ensures.line))
+
+pub returns-in-Err-clause-cause : goal.returns-in-Err-clause-cause
+returns-in-Err-clause-cause g c =
+    unread_cause Outcome which.Proof c.args.reader.slot (g.D.Desk.outside c.args.desk.now) (g.D.Desk.outside c.next.new.desk) c.in-Err.error c.outcome_of.result
+    c.outcome_of.ensures (Reads-trans c.lines.invariant.reads c.in-Err.ensures.reads).cause
+
+pub returns-in-Err-clause-unverified : goal.returns-in-Err-clause-unverified
+returns-in-Err-clause-unverified g c = unread which.Proof c.in-Err.error c.outcome_of.result c.outcome_of.ensures
 
 pub returns-in-Err-clause-only : goal.returns-in-Err-clause-only
 returns-in-Err-clause-only g c = (Reads-trans c.lines.invariant.reads c.in-Err.ensures.reads).only

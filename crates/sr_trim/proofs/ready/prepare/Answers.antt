@@ -1,21 +1,15 @@
-use Rattle.std.proofs.Common.{◌≡◌, inr, subst}
-use Rattle.std.specs.Prelude.{Option, List}
-use Rattle.sr_base.specs.declared.names.Which.{Which}
-use Rattle.sr_model.specs.Meeting.{Step}
-use Rattle.sr_load.specs.Loaded.{all_lines}
-use Rattle.sr_trimming.specs.Reordered.{AreStepsRewritten}
+use Rattle.std.proofs.Common.{inr}
 use Rattle.sr_trim.specs.Said.{trim_said}
-use Rattle.sr_trim.specs.Passing.{kept_steps, PassesLimit}
 use Rattle.sr_trim.proofs.Passed.{too_long}
 use Rattle.sr_trim.proofs.ready.prepare.Goals as goal
 
-pub returns-in-Some : goal.returns-in-Some
-returns-in-Some g c =
+pub returns-in-Some-clause-prepares : goal.returns-in-Some-clause-prepares
+returns-in-Some-clause-prepares g c =
     let st = g.L.Loaded.state c.args.loaded.now in
     inr (too_long c.args.limits.now (trim_said c.args.words.now) st c.args.steps c.count-counts.ensures.distinct c.requires.writable c.in-Some.which c.in-Some.ensures)
 
-pub returns : goal.returns
-returns g c = record {
+pub returns-clause-prepares : goal.returns-clause-prepares
+returns-clause-prepares g c = record {
   writable = c.requires.writable;
   distinct = c.count-counts.ensures.distinct;
   placed = c.in-Ok.ensures;
