@@ -16,12 +16,13 @@ use Rattle.sr_emit.specs.declared.outcome.Outcome.TheVariants as outcome
 use Rattle.sr_emit.specs.declared.counts.Counts.{Counts}
 use Rattle.sr_emit.proofs.Verified.{says_so}
 use Rattle.sr_trim.specs.Deciding.{Decision, stops, trims}
-use Rattle.sr_cli.specs.Demo.{DemoSaid, formula_text, proof_text, trim_of, HasNoFault, outputs, WritesEach, WritesDemo, FindsDemo}
+use Rattle.sr_trim.specs.Reporting.{HasReport}
+use Rattle.sr_cli.specs.Demo.{DemoSaid, formula_text, proof_text, trim_of, HasNoFault, outputs, WritesEach, WritesDemo, FindsDemo, demo_report}
 use Rattle.sr_cli.specs.Words.{demos}
-use Rattle.sr_cli.specs.Run.{IsRefutedIn, IsSound, SaysSo, OnlyPrints, Reports, RunsDemo, is_unreported, HasRunCause, HasDemoCause, OnlyDemos, one_if_named, files_named}
+use Rattle.sr_cli.specs.Run.{IsRefutedIn, IsSound, SaysSo, OnlyPrints, Shows, Reports, RunsDemo, is_unreported, HasRunCause, HasDemoCause, OnlyDemos, one_if_named, files_named, demo_names, counts_shown}
 use Rattle.sr_cli.proofs.Refuted.{verified_is, cancel}
 use Rattle.sr_cli.proofs.Touched.{Begins, begins_none, begins_more}
-use Rattle.sr_cli.proofs.Trimmed.{is_good, decided_refutes, reported}
+use Rattle.sr_cli.proofs.Trimmed.{is_good, decided_refutes, reported, unshown_counts}
 use Rattle.sr_cli.proofs.Outputs.{is_file, most_of, each_begins, each_cause, WriteCause}
 
 none : Counts
@@ -35,9 +36,24 @@ demo_out lim s o = record { found = outcome.NoMemory; counts = none; mid = o; fi
 pub demo_unreported : (lim : LimitValues) (s : DemoSaid) (old mid : Outside) (o : Outcome) (k : Counts) → FindsDemo lim s old mid o k → is_unreported o ≡ true → RunsDemo lim s old mid o
 demo_unreported lim s old mid o k finds u = record { found = o; counts = k; mid = mid; finds = finds; reports = rw u (refl, refl) }
 
-pub demo_reported : (lim : LimitValues) (s : DemoSaid) (old mid new : Outside) (o answered : Outcome) (k : Counts) → FindsDemo lim s old mid o k → is_unreported o ≡ false → OnlyPrints mid new
-    → Reports (report (command.Demo s.holes s.stats) (Some k) o) mid new o answered → RunsDemo lim s old new answered
-demo_reported lim s old mid new o answered k finds u only r = record { found = o; counts = k; mid = mid; finds = finds; reports = rw u (only, r) }
+pub demo_shown : (lim : LimitValues) (s : DemoSaid) (old mid new : Outside) (o answered : Outcome) (k : Counts) (bytes : List ℕ) → FindsDemo lim s old mid o k → is_verified o ≡ true
+    → HasReport (demo_report s) o k bytes → OnlyPrints mid new → Shows bytes mid new o answered → RunsDemo lim s old new answered
+demo_shown lim s old mid new o answered k bytes finds v made only shows =
+    let is : o ≡ outcome.Verified = verified_is o v in
+    let u : is_unreported o ≡ false = ap is_unreported is in
+    let e : bytes ≡ report (command.Demo s.holes s.stats) (demo_names s) (counts_shown true o k) o =
+    made is (demo_names s) ∙ ap (λ (x : Outcome). report (command.Demo s.holes s.stats) (demo_names s) (counts_shown true x k) x) (sym is) in
+    record { found = o; counts = k; mid = mid; finds = finds; reports = rw u (only, inr (subst (λ b. Shows b mid new o answered) e shows)) }
+
+pub demo_reported : (lim : LimitValues) (s : DemoSaid) (old mid new : Outside) (o answered : Outcome) (k : Counts) → FindsDemo lim s old mid o k → is_verified o ≡ false → is_unreported o ≡ false
+    → OnlyPrints mid new → Reports (report (command.Demo s.holes s.stats) (demo_names s) None o) mid new o answered → RunsDemo lim s old new answered
+demo_reported lim s old mid new o answered k finds v u only r = record {
+  found = o;
+  counts = k;
+  mid = mid;
+  finds = finds;
+  reports = rw u (only, subst (λ c. Reports (report (command.Demo s.holes s.stats) (demo_names s) c o) mid new o answered) (unshown_counts true o k v) r);
+}
 
 named_few : (name : Option (List ℕ)) → one_if_named name ≤ 1
 named_few None = omega arith
@@ -85,6 +101,7 @@ stop_cause old new (outcome.Text w k p) h = tt
 stop_cause old new (outcome.Limit w k) h = tt
 stop_cause old new (outcome.SourceFault w) h = h
 stop_cause old new (outcome.SinkFault w) h = absurd h
+stop_cause old new (outcome.Helped t) h = tt
 stop_cause old new outcome.NoMemory h = tt
 
 write_cause : (old new : Outside) (o : Outcome) → WriteCause old new o → FoundDemoCause old new o
@@ -97,6 +114,7 @@ write_cause old new (outcome.Text w k p) h = tt
 write_cause old new (outcome.Limit w k) h = tt
 write_cause old new (outcome.SourceFault w) h = h
 write_cause old new (outcome.SinkFault w) h = h
+write_cause old new (outcome.Helped t) h = tt
 write_cause old new outcome.NoMemory h = tt
 
 pub demo_found_cause : (lim : LimitValues) (s : DemoSaid) (old new : Outside) (o : Outcome) (k : Counts) → FindsDemo lim s old new o k → FoundDemoCause old new o
@@ -121,6 +139,7 @@ cause_told old new (outcome.SinkFault which.Formula) h = h.1
 cause_told old new (outcome.SinkFault which.Proof) h = h.1
 cause_told old new (outcome.SinkFault which.Lsr) h = h.1
 cause_told old new (outcome.SinkFault which.Core) h = h.1
+cause_told old new (outcome.Helped t) h = tt
 cause_told old new (outcome.SinkFault which.Report) h = let bad : false ≡ true = h.0 in absurd cc
 cause_told old new outcome.NoMemory h = tt
 
@@ -135,16 +154,17 @@ reported_cause old mid new (outcome.Text w k p) u h = tt
 reported_cause old mid new (outcome.Limit w k) u h = tt
 reported_cause old mid new (outcome.SourceFault w) u h = absurd h
 reported_cause old mid new (outcome.SinkFault w) u h = absurd cc
+reported_cause old mid new (outcome.Helped t) u h = tt
 reported_cause old mid new outcome.NoMemory u h = tt
 
 -- a run that isn't reported, or is
 abbrev EndsBy : DemoSaid → Outside → Outside → Outcome → Outcome → Counts → Type 0
 EndsBy s mid new found answered k = ((is_unreported found ≡ true) × (answered ≡ found) × (new ≡ mid))
-    ⊎ ((is_unreported found ≡ false) × OnlyPrints mid new × Reports (report (command.Demo s.holes s.stats) (Some k) found) mid new found answered)
+    ⊎ ((is_unreported found ≡ false) × OnlyPrints mid new × Reports (report (command.Demo s.holes s.stats) (demo_names s) (counts_shown true found k) found) mid new found answered)
 
 module _ (lim : LimitValues) (s : DemoSaid) (old new : Outside) (answered : Outcome) (zero : old.begun ≡ 0) (r : RunsDemo lim s old new answered) where
   ends : EndsBy s r.mid new r.found answered r.counts
-  ends = reported (report (command.Demo s.holes s.stats) (Some r.counts) r.found) r.mid new r.found answered r.reports
+  ends = reported (report (command.Demo s.holes s.stats) (demo_names s) (counts_shown true r.found r.counts) r.found) r.mid new r.found answered r.reports
 
   begins : Begins (files_named s) old r.mid
   begins = demo_begins lim s old r.mid r.found r.counts r.finds
@@ -173,8 +193,8 @@ module _ (lim : LimitValues) (s : DemoSaid) (old new : Outside) (answered : Outc
   pub demo_says_so : SaysSo lim (demos s) old new
   demo_says_so front sent = at ends
     where
-      told : (rest : List ℕ) → report (command.Demo s.holes s.stats) (Some r.counts) r.found ≡ (front ++ verified_line) ++ rest → IsRefutedIn lim (whole (formula_text s.holes))
-      told rest e = refutes (says_so (command.Demo s.holes s.stats) (Some r.counts) r.found front rest e)
+      told : (rest : List ℕ) → report (command.Demo s.holes s.stats) (demo_names s) (counts_shown true r.found r.counts) r.found ≡ (front ++ verified_line) ++ rest → IsRefutedIn lim (whole (formula_text s.holes))
+      told rest e = refutes (says_so (command.Demo s.holes s.stats) (demo_names s) (counts_shown true r.found r.counts) r.found front rest e)
 
       sent_mid : (new.slot 8).sent ≡ (r.mid.slot 8).sent ++ (front ++ verified_line)
       sent_mid = sent ∙ ap (λ (x : SlotState). x.sent ++ (front ++ verified_line)) (sym output_same)

@@ -58,6 +58,7 @@ module _ (F P : List ℕ) (old new : Outside) (fresh : IsFresh old) (texts : Has
   no_fault (stops (outcome.SourceFault which.Core)) reads h = h
   no_fault (stops (outcome.SourceFault which.Report)) reads h = h
   no_fault (stops (outcome.SinkFault w)) reads h = h
+  no_fault (stops (outcome.Helped t)) reads h = tt
   no_fault (stops outcome.NoMemory) reads h = tt
 
   -- the proof's slot agrees with the proof, also where it isn't begun

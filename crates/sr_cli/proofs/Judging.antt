@@ -42,6 +42,7 @@ proof_cause o0 o1 o2 (outcome.SourceFault which.Lsr) b l h = let e = h.0 in absu
 proof_cause o0 o1 o2 (outcome.SourceFault which.Core) b l h = let e = h.0 in absurd cc
 proof_cause o0 o1 o2 (outcome.SourceFault which.Report) b l h = let e = h.0 in absurd cc
 proof_cause o0 o1 o2 (outcome.SinkFault w) b l h = absurd h
+proof_cause o0 o1 o2 (outcome.Helped t) b l h = tt
 proof_cause o0 o1 o2 outcome.NoMemory b l h = tt
 
 -- a new checker tells its formula

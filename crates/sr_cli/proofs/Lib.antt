@@ -13,3 +13,4 @@ pub mod Stops
 pub mod Demos
 pub mod Outputs
 pub mod Demonstrated
+pub mod Unwritten

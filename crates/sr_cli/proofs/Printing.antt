@@ -11,12 +11,11 @@ use Rattle.sr_emit.specs.Report.{report}
 use Rattle.sr_emit.specs.declared.report.Command.TheVariants as command
 use Rattle.sr_emit.specs.declared.outcome.Outcome.{Outcome}
 use Rattle.sr_emit.specs.declared.outcome.Outcome.TheVariants as outcome
-use Rattle.sr_emit.specs.declared.outcome.UsageKind.{UsageKind}
 use Rattle.sr_emit.specs.declared.counts.Counts.{Counts}
-use Rattle.sr_cli.specs.Words.{Said, ReadOnly, refused, checks}
+use Rattle.sr_cli.specs.Words.{Said, ReadOnly, checks}
 use Rattle.sr_files.specs.Files.{ReadsFiles, HasReadCause}
 use Rattle.sr_cli.specs.Check.{IsFirst}
-use Rattle.sr_cli.specs.Run.{OnlyPrints, IsCutShort, Reports, RunsReadOnly}
+use Rattle.sr_cli.specs.Run.{OnlyPrints, IsCutShort, Reports, RunsReadOnly, names_asked}
 
 -- bytes that were sent stay sent where the slot is then finished
 sent_at_end : {E : Type 0} (bytes : List ℕ) (o0 o1 o2 : Outside) (e : E) → Sends (o0.slot 8) (o1.slot 8) bytes → Finishes 8 o1 o2 (Err e) → Sends (o0.slot 8) (o2.slot 8) bytes
@@ -54,23 +53,20 @@ pub output_same : (old mid : Outside) → ReadsFiles old mid → mid.slot 8 ≡ 
 output_same old mid (inl r) = r.others 8 (lit≤ tt)
 output_same old mid (inr r) = r.others 8 (lit≤ tt)
 
-none : Counts
+pub none : Counts
 none = record { clauses = 0; core = 0; lemmas = 0; steps = 0; hints = 0; passed = 0 }
 
 -- where memory runs out nothing is found
 pub runs_out : (lim : LimitValues) (a : ReadOnly) (o : Outside) → RunsReadOnly lim a o o outcome.NoMemory
-runs_out lim a o = record { found = outcome.NoMemory; counts = none; finds = inl refl; cause = tt; reports = inl (refl, refl) }
-
--- words that are refused
-pub runs_refused : (lim : LimitValues) (a : ReadOnly) (kind : UsageKind) (old new : Outside) (answered : Outcome) → a ≡ refused kind → old.begun ≡ 0 → OnlyPrints old new
-    → Reports (report command.Other None (outcome.Usage kind)) old new (outcome.Usage kind) answered → RunsReadOnly lim a old new answered
-runs_refused lim a kind old new answered e zero only r = subst (λ x. RunsReadOnly lim x old new answered) (sym e) (record {
-  found = outcome.Usage kind;
+runs_out lim a o = record {
+  found = outcome.NoMemory;
   counts = none;
-  finds = inr (λ formula proof f p. (refl, only.begun ∙ zero));
+  finds = inl refl;
   cause = tt;
-  reports = r;
-})
+  given = command.Help;
+  is_given = inl refl;
+  reports = inl (refl, refl);
+}
 
 -- printing changes no slot of a file
 cause_on : (old mid new : Outside) (o : Outcome) → OnlyPrints mid new → HasReadCause old mid o → HasReadCause old new o
@@ -87,12 +83,13 @@ cause_on old mid new (outcome.SourceFault which.Lsr) only h = absurd h
 cause_on old mid new (outcome.SourceFault which.Core) only h = absurd h
 cause_on old mid new (outcome.SourceFault which.Report) only h = absurd h
 cause_on old mid new (outcome.SinkFault w) only h = absurd h
+cause_on old mid new (outcome.Helped t) only h = tt
 cause_on old mid new outcome.NoMemory only h = tt
 
 -- files that are checked
 pub runs_check : (lim : LimitValues) (s : Said) (old mid new : Outside) (found answered : Outcome) (k : Counts) (shown : Option Counts) → ReadsFiles old mid
     → (found ≡ outcome.NoMemory) ⊎ ((formula proof : Contents) → Agrees (mid.slot 0) formula → Agrees (mid.slot 1) proof → IsFirst lim s formula proof found k mid.begun)
-    → HasReadCause old mid found → OnlyPrints mid new → shown ≡ (if s.stats then Some k else None) → Reports (report command.Check shown found) mid new found answered
+    → HasReadCause old mid found → OnlyPrints mid new → shown ≡ (if s.stats then Some k else None) → Reports (report command.Check (names_asked (checks s)) shown found) mid new found answered
     → RunsReadOnly lim (checks s) old new answered
 runs_check lim s old mid new found answered k shown slots finds cause only is r = record {
   found = found;
@@ -103,5 +100,7 @@ runs_check lim s old mid new found answered k shown slots finds cause only is r 
         (by formula proof (subst (λ (x : SlotState). Agrees x formula) (only.elsewhere 0 (λ e. cc)) f) (subst (λ (x : SlotState). Agrees x proof) (only.elsewhere 1 (λ e. cc)) p)))
   ];
   cause = cause_on old mid new found only cause;
-  reports = subst (λ c. Reports (report command.Check c found) old new found answered) is (reports_from (report command.Check shown found) old mid new found answered (output_same old mid slots) r);
+  given = command.Check;
+  is_given = inr refl;
+  reports = subst (λ c. Reports (report command.Check (names_asked (checks s)) c found) old new found answered) is (reports_from (report command.Check (names_asked (checks s)) shown found) old mid new found answered (output_same old mid slots) r);
 }

@@ -29,11 +29,11 @@ use Rattle.sr_emit.specs.Status.{is_verified}
 use Rattle.sr_emit.specs.declared.outcome.Outcome.{Outcome}
 use Rattle.sr_emit.specs.declared.outcome.Outcome.TheVariants as outcome
 use Rattle.sr_emit.specs.declared.counts.Counts.{Counts}
-use Rattle.sr_cli.specs.Words.{ReadOnly, refused, checks, only_reads}
+use Rattle.sr_cli.specs.Words.{ReadOnly, refused, helps, checks, only_reads}
 use Rattle.sr_cli.specs.Check.{grows_past, by_item, by_meeting, EndsAt, ByProof, ByClauses, ByFormula}
 use Rattle.sr_emit.specs.Report.{report}
 use Rattle.sr_emit.proofs.Verified.{says_so}
-use Rattle.sr_cli.specs.Run.{IsEvent, Finds, IsRefutedFile, IsSound, SaysSo, RunsReadOnly, Reports, command_of, counts_asked}
+use Rattle.sr_cli.specs.Run.{IsEvent, Finds, IsRefutedFile, IsSound, SaysSo, RunsReadOnly, Reports, names_asked, counts_asked}
 use Rattle.sr_emit.specs.Report.{verified_line}
 use Rattle.sr_cli.proofs.Standing.{judged_append}
 
@@ -95,7 +95,8 @@ agrees_some s = at s.ending refl
 
 event_refutes : (lim : LimitValues) (a : ReadOnly) (new : Outside) (k : Counts) → ((formula proof : Contents) → Agrees (new.slot 0) formula → Agrees (new.slot 1) proof → IsEvent lim a formula proof outcome.Verified k new.begun)
     → IsRefutedFile lim new
-event_refutes lim (refused kind) new k by c h = let some = agrees_some (new.slot 1) in let bad = (by c some.0 h some.1).0 in absurd cc
+event_refutes lim (refused kind t flaws) new k by c h = let some = agrees_some (new.slot 1) in let bad = (by c some.0 h some.1).0 in absurd cc
+event_refutes lim (helps t) new k by c h = let some = agrees_some (new.slot 1) in let bad = (by c some.0 h some.1).0 in absurd cc
 event_refutes lim (checks s) new k by c h = let some = agrees_some (new.slot 1) in formula_refutes lim s.proof_form s.strict some.0 (spelled lim.bytes c) k new.begun (by c some.0 h some.1)
 
 -- what is found as verified
@@ -114,6 +115,7 @@ verified_is (outcome.Text w k p) v = cc
 verified_is (outcome.Limit w k) v = cc
 verified_is (outcome.SourceFault w) v = cc
 verified_is (outcome.SinkFault w) v = cc
+verified_is (outcome.Helped t) v = cc
 verified_is outcome.NoMemory v = cc
 
 -- what is answered as verified was found
@@ -123,7 +125,7 @@ runs_sound lim a old new answered r v = at r.reports
     is : answered ≡ outcome.Verified
     is = verified_is answered v
 
-    at : Reports (report (command_of a) (counts_asked a r.counts) r.found) old new r.found answered → IsRefutedFile lim new
+    at : Reports (report r.given (names_asked a) (counts_asked a r.counts) r.found) old new r.found answered → IsRefutedFile lim new
     at (inl h) = let bad : outcome.NoMemory ≡ outcome.Verified = sym h.0 ∙ is in absurd cc
     at (inr (inl h)) = found_refutes lim a new r.found r.counts r.finds (sym h.0 ∙ is)
     at (inr (inr h)) = let bad : outcome.SinkFault which.Report ≡ outcome.Verified = sym h.0 ∙ is in absurd cc
@@ -136,10 +138,10 @@ cancel (x ∷ xs) ys zs e = cancel xs ys zs (cc)
 pub runs_say_so : (lim : LimitValues) (a : ReadOnly) (old new : Outside) (answered : Outcome) → RunsReadOnly lim a old new answered → SaysSo lim (only_reads a) old new
 runs_say_so lim a old new answered r front sent = at r.reports
   where
-    told : (rest : List ℕ) → report (command_of a) (counts_asked a r.counts) r.found ≡ (front ++ verified_line) ++ rest → IsRefutedFile lim new
-    told rest e = found_refutes lim a new r.found r.counts r.finds (says_so (command_of a) (counts_asked a r.counts) r.found front rest e)
+    told : (rest : List ℕ) → report r.given (names_asked a) (counts_asked a r.counts) r.found ≡ (front ++ verified_line) ++ rest → IsRefutedFile lim new
+    told rest e = found_refutes lim a new r.found r.counts r.finds (says_so r.given (names_asked a) (counts_asked a r.counts) r.found front rest e)
 
-    at : Reports (report (command_of a) (counts_asked a r.counts) r.found) old new r.found answered → IsRefutedFile lim new
+    at : Reports (report r.given (names_asked a) (counts_asked a r.counts) r.found) old new r.found answered → IsRefutedFile lim new
     at (inl h) =
         let same : (old.slot 8).sent ≡ (old.slot 8).sent ++ (front ++ verified_line) = sym (ap (λ (s : SlotState). s.sent) h.1) ∙ sent in
         let size : length (old.slot 8).sent ≡ length (old.slot 8).sent + (length front + 17) = ap length same ∙ simp length-append in

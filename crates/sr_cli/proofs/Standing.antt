@@ -171,6 +171,7 @@ module _ (lim : LimitValues) (form : Form) (strict : Bool) (f : List (List Liter
   progress_ends q x c' u (outcome.Limit v y) s w r g k = ended q x u (outcome.Limit v y) s w r g k.0 k.1
   progress_ends q x c' u (outcome.SourceFault v) s w r g k = ended q x u (outcome.SourceFault v) s w r g k.0 k.1
   progress_ends q x c' u (outcome.SinkFault v) s w r g k = ended q x u (outcome.SinkFault v) s w r g k.0 k.1
+  progress_ends q x c' u (outcome.Helped t) s w r g k = ended q x u (outcome.Helped t) s w r g k.0 k.1
   progress_ends q x c' u outcome.NoMemory s w r g k = inl refl
 
   -- where no item is read

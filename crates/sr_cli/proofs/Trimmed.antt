@@ -1,6 +1,6 @@
 -- What `trim` answers as verified is refuted.
 use Rattle.std.proofs.Common.{◌≡◌, ◌≢◌, ◌∙◌, ◌⊎◌, inl, inr, ◌+◌, ◌≤◌, ℕ, Bool, true, false, List, [], ◌∷◌, ◌++◌, Option, Some, None, refl, sym, ap, subst, arith, length, length-append}
-use Rattle.std.specs.Prelude.{nat_lt, filter, ◌&&◌, if◌then◌else◌}
+use Rattle.std.specs.Prelude.{nat_lt, filter, ◌&&◌}
 use Rattle.std.proofs.lemmas.List.{append-nil}
 use Rattle.sr_base.specs.Literal.{Literal}
 use Rattle.sr_base.specs.Limits.{LimitValues}
@@ -37,8 +37,10 @@ use Rattle.sr_trim.specs.Said.{TrimSaid}
 use Rattle.sr_trim.specs.Deciding.{Decision, stops, trims, ByPass, AtStop, ByLine, limit_of, loading, EndsLoading, ByProof, ByClauses, ByFormula, IsDecided}
 use Rattle.sr_trim.specs.Outputs.{WritesOne, Writes}
 use Rattle.sr_trim.specs.Finding.{Finds, Trims, HasDecidedCause}
+use Rattle.sr_trim.specs.Reporting.{HasReport}
+use Rattle.sr_trim.specs.Reporting as reporting
 use Rattle.sr_cli.specs.Words as words
-use Rattle.sr_cli.specs.Run.{IsRefutedFile, IsSound, SaysSo, OnlyPrints, Reports, ReportsTrim, RunsTrim, is_unreported, HasFilesCause, HasRunCause, OnlyTrims}
+use Rattle.sr_cli.specs.Run.{IsRefutedFile, IsSound, SaysSo, OnlyPrints, Shows, Reports, ReportsTrim, RunsTrim, is_unreported, HasFilesCause, HasRunCause, OnlyTrims, trim_names, counts_shown}
 use Rattle.sr_cli.proofs.Refuted.{verified_is, agrees_some, cancel}
 use Rattle.sr_cli.proofs.Touched.{Begins, finds_begin, formula_stays, two_cause, reads_begin, SinkCause, FoundCause}
 
@@ -158,7 +160,7 @@ module _ (lim : LimitValues) (s : TrimSaid) (old new : Outside) (answered : Outc
       is = verified_is answered v
 
       at : ((is_unreported r.found ≡ true) × (answered ≡ r.found) × (new ≡ r.mid))
-          ⊎ ((is_unreported r.found ≡ false) × OnlyPrints r.mid new × Reports (report command.Trim (if s.stats then Some r.counts else None) r.found) r.mid new r.found answered) → IsRefutedFile lim new
+          ⊎ ((is_unreported r.found ≡ false) × OnlyPrints r.mid new × Reports (report command.Trim (trim_names s) (counts_shown s.stats r.found r.counts) r.found) r.mid new r.found answered) → IsRefutedFile lim new
       at (inl h) = refutes (sym h.1 ∙ is)
       at (inr (_, _, inl h)) = let bad : outcome.NoMemory ≡ outcome.Verified = sym h.0 ∙ is in absurd cc
       at (inr (_, _, inr (inl h))) = refutes (sym h.0 ∙ is)
@@ -171,10 +173,10 @@ module _ (lim : LimitValues) (s : TrimSaid) (old new : Outside) (answered : Outc
   trim_says_so front sent = at (reported _ r.mid new r.found answered r.reports)
     where
       bytes : List ℕ
-      bytes = report command.Trim (if s.stats then Some r.counts else None) r.found
+      bytes = report command.Trim (trim_names s) (counts_shown s.stats r.found r.counts) r.found
 
-      told : (rest : List ℕ) → report command.Trim (if s.stats then Some r.counts else None) r.found ≡ (front ++ verified_line) ++ rest → IsRefutedFile lim new
-      told rest e = refutes (says_so command.Trim (if s.stats then Some r.counts else None) r.found front rest e)
+      told : (rest : List ℕ) → report command.Trim (trim_names s) (counts_shown s.stats r.found r.counts) r.found ≡ (front ++ verified_line) ++ rest → IsRefutedFile lim new
+      told rest e = refutes (says_so command.Trim (trim_names s) (counts_shown s.stats r.found r.counts) r.found front rest e)
 
       sent_mid : (new.slot 8).sent ≡ (r.mid.slot 8).sent ++ (front ++ verified_line)
       sent_mid = sent ∙ ap (λ (x : SlotState). x.sent ++ (front ++ verified_line)) (sym output_same)
@@ -186,7 +188,7 @@ module _ (lim : LimitValues) (s : TrimSaid) (old new : Outside) (answered : Outc
           absurd (omega arith)
 
       at : ((is_unreported r.found ≡ true) × (answered ≡ r.found) × (new ≡ r.mid))
-          ⊎ ((is_unreported r.found ≡ false) × OnlyPrints r.mid new × Reports (report command.Trim (if s.stats then Some r.counts else None) r.found) r.mid new r.found answered) → IsRefutedFile lim new
+          ⊎ ((is_unreported r.found ≡ false) × OnlyPrints r.mid new × Reports (report command.Trim (trim_names s) (counts_shown s.stats r.found r.counts) r.found) r.mid new r.found answered) → IsRefutedFile lim new
       at (inl h) = unsent (ap (λ (o : Outside). o.slot 8) h.2)
       at (inr (_, _, inl h)) = unsent h.1
       at (inr (_, _, inr (inl h))) = told [] (cancel (r.mid.slot 8).sent _ _ (sym h.1.sends.sent ∙ sent_mid) ∙ sym (append-nil (front ++ verified_line)))
@@ -242,6 +244,7 @@ module _ (lim : LimitValues) (s : TrimSaid) (old new : Outside) (answered : Outc
       of_read m (outcome.Limit w k) h = h
       of_read m (outcome.SourceFault w) h = h
       of_read m (outcome.SinkFault w) h = absurd h
+      of_read m (outcome.Helped t) h = h
       of_read m outcome.NoMemory h = h
 
       of_write : (w : Which) (o : Outcome) → (o ≡ outcome.Verified) ⊎ (o ≡ outcome.SinkFault w) → SinkCause old r.mid o → FoundCause old r.mid o
@@ -282,6 +285,7 @@ module _ (lim : LimitValues) (s : TrimSaid) (old new : Outside) (answered : Outc
   cause_mid (outcome.SinkFault which.Lsr) h = h
   cause_mid (outcome.SinkFault which.Core) h = h
   cause_mid (outcome.SinkFault which.Report) h = absurd h
+  cause_mid (outcome.Helped t) h = h
   cause_mid outcome.NoMemory h = h
 
   cause_on : (o : Outcome) → is_unreported o ≡ false → OnlyPrints r.mid new → HasFilesCause old r.mid o → HasFilesCause old new o
@@ -298,13 +302,14 @@ module _ (lim : LimitValues) (s : TrimSaid) (old new : Outside) (answered : Outc
   cause_on (outcome.SourceFault which.Core) u only h = absurd h
   cause_on (outcome.SourceFault which.Report) u only h = absurd h
   cause_on (outcome.SinkFault w) u only h = absurd cc
+  cause_on (outcome.Helped t) u only h = tt
   cause_on outcome.NoMemory u only h = tt
 
   pub trim_cause : HasRunCause (words.trims s) old new answered
   trim_cause = at (reported _ r.mid new r.found answered r.reports)
     where
       at : ((is_unreported r.found ≡ true) × (answered ≡ r.found) × (new ≡ r.mid))
-          ⊎ ((is_unreported r.found ≡ false) × OnlyPrints r.mid new × Reports (report command.Trim (if s.stats then Some r.counts else None) r.found) r.mid new r.found answered) → HasFilesCause old new answered
+          ⊎ ((is_unreported r.found ≡ false) × OnlyPrints r.mid new × Reports (report command.Trim (trim_names s) (counts_shown s.stats r.found r.counts) r.found) r.mid new r.found answered) → HasFilesCause old new answered
       at (inl h) = subst (λ (x : Outcome). HasFilesCause old new x) (sym h.1) (subst (λ (o : Outside). HasFilesCause old o r.found) (sym h.2) (cause_mid r.found found_cause))
       at (inr (_, _, inl h)) = subst (λ (x : Outcome). HasFilesCause old new x) (sym h.0) tt
       at (inr (u, only, inr (inl h))) = subst (λ (x : Outcome). HasFilesCause old new x) (sym h.0) (cause_on r.found u only (cause_mid r.found found_cause))
@@ -324,26 +329,41 @@ trim_out lim s o zero = record {
   reports = (refl, refl);
 }
 
-is_reported : (o : Outcome) → ((w : Which) → o ≡ outcome.SinkFault w → ⊥) → (o ≡ outcome.NoMemory → ⊥) → is_unreported o ≡ false
-is_reported outcome.Verified f g = refl
-is_reported (outcome.RejectedStep id x) f g = refl
-is_reported (outcome.RejectedLemma id x) f g = refl
-is_reported outcome.NoEmptyClause f g = refl
-is_reported (outcome.Usage k) f g = refl
-is_reported (outcome.Text w k p) f g = refl
-is_reported (outcome.Limit w k) f g = refl
-is_reported (outcome.SourceFault w) f g = refl
-is_reported (outcome.SinkFault w) f g = absurd (f w refl)
-is_reported outcome.NoMemory f g = absurd (g refl)
+-- the counts that are shown
+shown_counts : (b : Bool) (k : Counts) → reporting.reported b k ≡ counts_shown b outcome.Verified k
+shown_counts true k = refl
+shown_counts false k = refl
+
+pub unshown_counts : (b : Bool) (o : Outcome) (k : Counts) → is_verified o ≡ false → None ≡ counts_shown b o k
+unshown_counts true o k v = rw v refl
+unshown_counts false o k v = refl
+
+-- a run whose report was made before
+pub runs_shown : (lim : LimitValues) (s : TrimSaid) (old mid new : Outside) (found answered : Outcome) (k : Counts) (bytes : List ℕ) → Finds lim s old mid found k
+    → is_verified found ≡ true → HasReport (record { command = command.Trim; with_counts = s.stats }) found k bytes → OnlyPrints mid new → Shows bytes mid new found answered
+    → RunsTrim lim s old new answered
+runs_shown lim s old mid new found answered k bytes h v made only shows =
+    let is : found ≡ outcome.Verified = verified_is found v in
+    let u : is_unreported found ≡ false = ap is_unreported is in
+    let e : bytes ≡ report command.Trim (trim_names s) (counts_shown s.stats found k) found =
+    made is (trim_names s) ∙ ap (λ c. report command.Trim (trim_names s) c outcome.Verified) (shown_counts s.stats k)
+    ∙ ap (λ (o : Outcome). report command.Trim (trim_names s) (counts_shown s.stats o k) o) (sym is) in
+    record {
+      found = found;
+      counts = k;
+      mid = mid;
+      finds = h;
+      reports = rw u (only, inr (subst (λ b. Shows b mid new found answered) e shows));
+    }
 
 -- a run whose outcome is reported
-pub runs_reported : (lim : LimitValues) (s : TrimSaid) (old mid new : Outside) (found answered : Outcome) (k : Counts) (shown : Option Counts) → Finds lim s old mid found k
-    → ((w : Which) → found ≡ outcome.SinkFault w → ⊥) → (found ≡ outcome.NoMemory → ⊥) → OnlyPrints mid new → shown ≡ (if s.stats then Some k else None)
-    → Reports (report command.Trim shown found) mid new found answered → RunsTrim lim s old new answered
-runs_reported lim s old mid new found answered k shown h f g only is r = record {
+pub runs_reported : (lim : LimitValues) (s : TrimSaid) (old mid new : Outside) (found answered : Outcome) (k : Counts) → Finds lim s old mid found k
+    → is_verified found ≡ false → is_unreported found ≡ false → OnlyPrints mid new
+    → Reports (report command.Trim (trim_names s) None found) mid new found answered → RunsTrim lim s old new answered
+runs_reported lim s old mid new found answered k h v u only r = record {
   found = found;
   counts = k;
   mid = mid;
   finds = h;
-  reports = rw (is_reported found f g) (only, subst (λ c. Reports (report command.Trim c found) mid new found answered) is r);
+  reports = rw u (only, subst (λ c. Reports (report command.Trim (trim_names s) c found) mid new found answered) (unshown_counts s.stats found k v) r);
 }

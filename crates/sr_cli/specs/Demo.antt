@@ -1,6 +1,6 @@
 -- What `demo` is asked for, and what it does: it trims the proof by swaps of the pigeonhole formula, and writes the files that are
 -- asked for.
-use Rattle.std.specs.Prelude.{ℕ, ◌≡◌, ◌⊎◌, Bool, false, List, [], ◌∷◌, Option, Some, codes}
+use Rattle.std.specs.Prelude.{ℕ, ◌≡◌, ◌⊎◌, Bool, true, false, List, [], ◌∷◌, Option, Some, codes}
 use Rattle.sr_base.specs.Limits.{LimitValues}
 use Rattle.sr_base.specs.Contents.{whole}
 use Rattle.sr_base.specs.declared.names.Form.TheVariants.{Text}
@@ -13,10 +13,12 @@ use Rattle.sr_emit.specs.Status.{is_verified}
 use Rattle.sr_emit.specs.declared.counts.Counts.{Counts}
 use Rattle.sr_emit.specs.declared.outcome.Outcome.{Outcome}
 use Rattle.sr_emit.specs.declared.outcome.Outcome.TheVariants as outcome
+use Rattle.sr_emit.specs.declared.report.Command.TheVariants.{Demo}
 use Rattle.sr_trim.specs.Said.{TrimSaid}
 use Rattle.sr_trim.specs.Deciding.{Decision, stops, trims, IsDecided}
 use Rattle.sr_trim.specs.Outputs.{WritesOne, Writes, asked_lsr, asked_core}
 use Rattle.sr_trim.specs.Finding.{AreCounts}
+use Rattle.sr_trim.specs.declared.reporting.Wanted.{Wanted}
 
 -- what the words of `demo` say: the number of holes, the files that are to be written, and whether statistics are asked for
 pub record DemoSaid : Type 0 where
@@ -45,6 +47,10 @@ trim_of s = record {
   keep = false;
   stats = s.stats;
 }
+
+-- the report that is wanted where it is verified
+abbrev pub demo_report : DemoSaid → Wanted
+demo_report s = record { command = Demo s.holes s.stats; with_counts = true }
 
 -- what the texts come to, whose files have no failed read
 pub record IsDemo (lim : LimitValues) (s : DemoSaid) (d : Decision) : Type 0 where

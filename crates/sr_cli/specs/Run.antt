@@ -1,5 +1,5 @@
 -- What a run does and answers, from its words to what it leaves.
-use Rattle.std.specs.Prelude.{cond, ◌≡◌, ◌≢◌, ◌⊎◌, ℕ, ◌+◌, ◌-◌, ◌≤◌, ◌<◌, Bool, true, false, List, ◌++◌, Option, Some, None, if◌then◌else◌}
+use Rattle.std.specs.Prelude.{cond, ◌≡◌, ◌≢◌, ◌⊎◌, ℕ, ◌+◌, ◌-◌, ◌≤◌, ◌<◌, ◌&&◌, Bool, true, false, List, ◌++◌, Option, Some, None, if◌then◌else◌}
 use Rattle.sr_base.specs.Limits.{LimitValues}
 use Rattle.sr_base.specs.Contents.{Contents, whole}
 use Rattle.sr_base.specs.declared.names.Which.TheVariants as which
@@ -11,16 +11,18 @@ use Rattle.sr_model.specs.Formulas.{SpellsFormula}
 use Rattle.sr_desk.specs.Outside.{Outside, Agrees, Rose, SameElsewhere}
 use Rattle.sr_desk.specs.Calls.{Sends, SendsPrefix}
 use Rattle.sr_emit.specs.Status.{is_verified}
+use Rattle.sr_emit.specs.FileNames.{Names}
 use Rattle.sr_emit.specs.Report.{report, verified_line}
 use Rattle.sr_emit.specs.declared.report.Command.{Command}
 use Rattle.sr_emit.specs.declared.report.Command.TheVariants as command
 use Rattle.sr_emit.specs.declared.outcome.Outcome.{Outcome}
 use Rattle.sr_emit.specs.declared.outcome.Outcome.TheVariants as outcome
 use Rattle.sr_emit.specs.declared.counts.Counts.{Counts}
+use Rattle.sr_emit.specs.declared.topic.Flaw.{Flaw}
 use Rattle.sr_trim.specs.Said.{TrimSaid}
 use Rattle.sr_trim.specs.Finding as trim
 use Rattle.sr_cli.specs.Demo.{DemoSaid, formula_text, FindsDemo}
-use Rattle.sr_cli.specs.Words.{ReadOnly, refused, checks, Asked, only_reads, trims, demos}
+use Rattle.sr_cli.specs.Words.{ReadOnly, refused, helps, checks, Asked, only_reads, trims, demos, IsOneOf}
 use Rattle.sr_files.specs.Files.{GivesFile, HasReadCause}
 use Rattle.sr_cli.specs.Check.{IsFirst}
 
@@ -41,15 +43,19 @@ pub record IsCutShort (bytes : List ℕ) (old new : Outside) : Type 0 where
   pub sends : SendsPrefix (old.slot 8) (new.slot 8) bytes
   pub rose : Rose (old.slot 8).faults (new.slot 8).faults
 
--- the report of what was found is printed; or memory ran out and nothing is; or printing failed
-abbrev pub Reports : List ℕ → Outside → Outside → Outcome → Outcome → Type 0
-Reports bytes old new found answered = ((answered ≡ outcome.NoMemory) × (new.slot 8 ≡ old.slot 8))
-    ⊎ ((answered ≡ found) × IsPrinted bytes old new)
+-- the report of what was found is printed, or printing failed
+abbrev pub Shows : List ℕ → Outside → Outside → Outcome → Outcome → Type 0
+Shows bytes old new found answered = ((answered ≡ found) × IsPrinted bytes old new)
     ⊎ ((answered ≡ outcome.SinkFault which.Report) × IsCutShort bytes old new)
+
+-- or memory ran out, and nothing is printed
+abbrev pub Reports : List ℕ → Outside → Outside → Outcome → Outcome → Type 0
+Reports bytes old new found answered = ((answered ≡ outcome.NoMemory) × (new.slot 8 ≡ old.slot 8)) ⊎ Shows bytes old new found answered
 
 -- the event that the words and two files of such contents have, with the counts, and with as many files as are begun for it
 abbrev pub IsEvent : LimitValues → ReadOnly → Contents → Contents → Outcome → Counts → ℕ → Type 0
-IsEvent lim (refused kind) formula proof o k begun = (o ≡ outcome.Usage kind) × (begun ≡ 0)
+IsEvent lim (refused kind t flaws) formula proof o k begun = (o ≡ outcome.Usage kind) × (begun ≡ 0)
+IsEvent lim (helps t) formula proof o k begun = (o ≡ outcome.Helped t) × (begun ≡ 0)
 IsEvent lim (checks s) formula proof o k begun = IsFirst lim s formula proof o k begun
 
 -- memory ran out, or this is the event of all files with which what the slots 0 and 1 gave agrees
@@ -58,20 +64,42 @@ Finds lim a new o k = (o ≡ outcome.NoMemory)
     ⊎ ((formula proof : Contents) → Agrees (new.slot 0) formula → Agrees (new.slot 1) proof → IsEvent lim a formula proof o k new.begun)
 
 abbrev pub counts_asked : ReadOnly → Counts → Option Counts
-counts_asked (refused kind) k = None
+counts_asked (refused kind t flaws) k = None
+counts_asked (helps t) k = None
 counts_asked (checks s) k = if s.stats then Some k else None
 
-abbrev pub command_of : ReadOnly → Command
-command_of (refused kind) = command.Other
-command_of (checks s) = command.Check
+-- what the report is told: of refused words one of their flaws
+abbrev pub IsCommandOf : ReadOnly → Command → Type 0
+IsCommandOf (refused kind t flaws) c = (f : Flaw) × ((c ≡ command.Refused t f) × IsOneOf f flaws)
+IsCommandOf (helps t) c = c ≡ command.Help
+IsCommandOf (checks s) c = c ≡ command.Check
 
--- something was found, and reported; where that is a failed read, its count rose
+-- the names that the report may name
+abbrev pub no_names : Names
+no_names = record { formula = None; proof = None; lsr = None; core = None }
+
+abbrev pub names_asked : ReadOnly → Names
+names_asked (refused kind t flaws) = no_names
+names_asked (helps t) = no_names
+names_asked (checks s) = record { formula = Some s.formula; proof = Some s.proof; lsr = None; core = None }
+
+abbrev pub trim_names : TrimSaid → Names
+trim_names s = record { formula = Some s.formula; proof = Some s.proof; lsr = s.lsr; core = s.core }
+
+-- the formula and the proof of `demo` are made
+abbrev pub demo_names : DemoSaid → Names
+demo_names s = record { formula = None; proof = None; lsr = s.lsr; core = s.core }
+
+-- something was found, and reported; where that is a failed read, its count rose. Out of memory has an empty report, whatever
+-- the command
 pub record RunsReadOnly (lim : LimitValues) (a : ReadOnly) (old new : Outside) (answered : Outcome) : Type 0 where
   pub found : Outcome
   pub counts : Counts
   pub finds : Finds lim a new found counts
   pub cause : HasReadCause old new found
-  pub reports : Reports (report (command_of a) (counts_asked a counts) found) old new found answered
+  pub given : Command
+  pub is_given : (found ≡ outcome.NoMemory) ⊎ IsCommandOf a given
+  pub reports : Reports (report given (names_asked a) (counts_asked a counts) found) old new found answered
 
 -- a fault of a file that is written, and out of memory, aren't reported
 abbrev pub is_unreported : Outcome → Bool
@@ -83,13 +111,17 @@ abbrev pub ReportsTrim : List ℕ → Outside → Outside → Outcome → Outcom
 ReportsTrim bytes mid new found answered = cond (is_unreported found) ((answered ≡ found) × (new ≡ mid))
     (OnlyPrints mid new × Reports bytes mid new found answered)
 
+-- the counts of a verified run are reported, where they are asked for
+abbrev pub counts_shown : Bool → Outcome → Counts → Option Counts
+counts_shown is_asked o k = if is_asked && is_verified o then Some k else None
+
 -- up to `mid` the files were read and written, and then what was found is reported
 pub record RunsTrim (lim : LimitValues) (s : TrimSaid) (old new : Outside) (answered : Outcome) : Type 0 where
   pub found : Outcome
   pub counts : Counts
   pub mid : Outside
   pub finds : trim.Finds lim s old mid found counts
-  pub reports : ReportsTrim (report command.Trim (if s.stats then Some counts else None) found) mid new found answered
+  pub reports : ReportsTrim (report command.Trim (trim_names s) (counts_shown s.stats found counts) found) mid new found answered
 
 -- what was found over the texts that are made is written and reported
 pub record RunsDemo (lim : LimitValues) (s : DemoSaid) (old new : Outside) (answered : Outcome) : Type 0 where
@@ -97,7 +129,8 @@ pub record RunsDemo (lim : LimitValues) (s : DemoSaid) (old new : Outside) (answ
   pub counts : Counts
   pub mid : Outside
   pub finds : FindsDemo lim s old mid found counts
-  pub reports : ReportsTrim (report (command.Demo s.holes s.stats) (Some counts) found) mid new found answered
+  pub reports : ReportsTrim (report (command.Demo s.holes s.stats) (demo_names s) (counts_shown true found counts) found)
+      mid new found answered
 
 -- what a run does that is asked for this
 abbrev pub Runs : LimitValues → Asked → Outside → Outside → Outcome → Type 0
@@ -147,14 +180,27 @@ HasRunCause (only_reads a) old new o = HasFilesCause old new o
 HasRunCause (trims s) old new o = HasFilesCause old new o
 HasRunCause (demos s) old new o = HasDemoCause old new o
 
+-- no file was begun for writing, and none changed
+pub record WritesNoFile (old new : Outside) : Type 0 where
+  pub file : new.file ≡ old.file
+  pub writes : (k : ℕ) → k < 8 → (new.slot k).writes ≡ (old.slot k).writes
+
+-- so it is where memory runs out; and where no file is read, none was begun at all
+abbrev pub StaysUnwritten : Asked → Outside → Outside → Outcome → Type 0
+StaysUnwritten (only_reads a) old new o = o ≡ outcome.NoMemory → WritesNoFile old new
+StaysUnwritten (trims s) old new o = o ≡ outcome.NoMemory → WritesNoFile old new
+StaysUnwritten (demos s) old new o = o ≡ outcome.NoMemory → WritesNoFile old new × (new.begun ≡ old.begun)
+
 -- known files are read as they are
 abbrev pub GivesReadOnly : ReadOnly → Outside → Outside → Type 0
-GivesReadOnly (refused kind) old new = Unit {0}
+GivesReadOnly (refused kind t flaws) old new = Unit {0}
+GivesReadOnly (helps t) old new = Unit {0}
 GivesReadOnly (checks s) old new = (1 ≤ new.begun → GivesFile 0 s.formula old new) × (2 ≤ new.begun → GivesFile 1 s.proof old new)
 
 -- how many files are begun at most
 abbrev pub most_begun : ReadOnly → ℕ
-most_begun (refused kind) = 0
+most_begun (refused kind t flaws) = 0
+most_begun (helps t) = 0
 most_begun (checks s) = 2
 
 -- so many files at most were begun, all for reading; the other slots but standard output and all files are as they were

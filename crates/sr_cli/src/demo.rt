@@ -2,20 +2,21 @@
 ghost use Rattle.std.specs.Prelude.{◌≡◌, ◌<◌, ◌≤◌, Some, option_map};
 ghost use Rattle.sr_sure.specs.SureView.{outside_of, HasTexts, IsFresh};
 ghost use Rattle.sr_trim.specs.Outputs.{WritesOne};
+ghost use Rattle.sr_trim.specs.Reporting.{HasReport};
 ghost use Rattle.sr_cli.specs.Words.{demo_said, AreHoles};
-ghost use Rattle.sr_cli.specs.Demo.{formula_text, proof_text, made_outputs, WritesEach, FindsTexts, FindsDemo};
+ghost use Rattle.sr_cli.specs.Demo.{formula_text, proof_text, made_outputs, WritesEach, FindsTexts, FindsDemo, demo_report};
 
 use crate::words::DemoWords;
 use sr_base::{ByteList, Form, Limits, Which};
 use sr_desk::Desk;
-use sr_emit::{Counts, Outcome};
+use sr_emit::{Command, Counts, Outcome};
 use sr_files::write_file;
 use sr_holes::{holes_formula, holes_proof};
 use sr_sure::SureDesk;
-use sr_trim::{TrimWords, Trimmed, trim_between};
+use sr_trim::{TrimWords, Trimmed, Wanted, trim_between};
 use std::alloc::Global;
 
-fn without_counts(outcome: Outcome) -> Trimmed
+fn without_counts(alloc: Global, outcome: Outcome) -> Trimmed
     ensures { result.outcome ≡ outcome }
 {
     Trimmed {
@@ -28,6 +29,7 @@ fn without_counts(outcome: Outcome) -> Trimmed
             hints: 0,
             passed: 0,
         },
+        report: ByteList::new(alloc),
     }
 }
 
@@ -44,6 +46,7 @@ fn trim_sure<D: Desk>(
     requires texts { HasTexts (formula_text words.now.holes) (proof_text words.now.holes) (outside_of sure.old) }
     ensures finds { FindsTexts limits.now (demo_said words.now) (D.outside desk.old) (D.outside desk.new) result.outcome result.counts }
     ensures texts { HasTexts (formula_text words.now.holes) (proof_text words.now.holes) (outside_of sure.new) }
+    ensures report { HasReport (demo_report (demo_said words.now)) result.outcome result.counts result.report }
 {
     let asked = TrimWords {
         formula: "formula",
@@ -55,7 +58,14 @@ fn trim_sure<D: Desk>(
         keep_units: false,
         stats: words.stats,
     };
-    trim_between(alloc, limits, &asked, sure, desk)
+    let wanted = Wanted {
+        command: Command::Demo {
+            holes: words.holes,
+            stats: words.stats,
+        },
+        with_counts: true,
+    };
+    trim_between(alloc, limits, &asked, wanted, sure, desk)
 }
 
 /// Writes a file, where it is asked for.
@@ -97,13 +107,14 @@ pub(crate) fn demo_files<D: Desk>(
 ) -> Trimmed
     requires none { (D.outside desk.old).begun ≡ 0 }
     requires holes { AreHoles words.now.holes }
-    ensures { FindsDemo limits.now (demo_said words.now) (D.outside desk.old) (D.outside desk.new) result.outcome result.counts }
+    ensures finds { FindsDemo limits.now (demo_said words.now) (D.outside desk.old) (D.outside desk.new) result.outcome result.counts }
+    ensures report { HasReport (demo_report (demo_said words.now)) result.outcome result.counts result.report }
 {
     let Ok(formula) = holes_formula(alloc, words.holes) else {
-        return without_counts(Outcome::NoMemory);
+        return without_counts(alloc, Outcome::NoMemory);
     };
     let Ok(proof) = holes_proof(alloc, words.holes) else {
-        return without_counts(Outcome::NoMemory);
+        return without_counts(alloc, Outcome::NoMemory);
     };
     let mut sure = SureDesk::new(formula, proof);
     let trimmed = trim_sure(alloc, limits, words, &mut sure, desk);
@@ -114,5 +125,6 @@ pub(crate) fn demo_files<D: Desk>(
     Trimmed {
         outcome,
         counts: trimmed.counts,
+        report: trimmed.report,
     }
 }

@@ -3,12 +3,12 @@ ghost use Rattle.std.specs.Prelude.{◌≡◌, IfOk, IfSome, true, false, map, s
 ghost use Rattle.clap.specs.Words.{app_of, rule_of, with_rule, found_of, rows_of, first_of, matches_of, fault_of, is_simple_and_free};
 ghost use Rattle.sr_trim.specs.Said.{trim_said};
 ghost use Rattle.sr_cli.specs.Commands.{check_app, trim_files_app, trim_app, demo_files_app, demo_app, bare_app, positional_rule, option_rule, flag_rule};
-ghost use Rattle.sr_cli.specs.Words.{form_of, is_on, said_in, said_by, said, check_said, asked_by, asked, trim_in, trim_by, trim_words, trim_asked, is_named, core_is_named, has_same_names, holes_of, holes_in, demo_in, demo_by, demo_words, share_name, demo_shares, demo_asked, demo_said, AreHoles, Matches, Says, SaysTrim, SaysDemo, SaysTask};
+ghost use Rattle.sr_cli.specs.Words.{only_reads, form_of, is_on, said_in, said_by, said, check_said, asked, trim_in, trim_by, trim_words, trim_asked, is_named, core_is_named, has_same_names, flaw_of, check_flaws, check_asked, trim_flaws, demo_flaws, is_help, asks_help, is_version, topic_of, help_on, help_asked, first_asked, holes_of, holes_in, demo_in, demo_by, demo_words, share_name, demo_shares, demo_asked, demo_said, AreHoles, Matches, Says, SaysTrim, SaysDemo, SaysTask};
 
 use clap::error::ErrorKind;
 use clap::{Arg, ArgAction, ArgMatches, Command};
 use sr_base::Form;
-use sr_emit::UsageKind;
+use sr_emit::{Flaw, Topic};
 use sr_holes::MOST_HOLES;
 use sr_trim::TrimWords;
 use std::alloc::{AllocError, Global};
@@ -40,12 +40,14 @@ pub enum Task<'a> {
     Check(CheckWords<'a>),
     Trim(TrimWords<'a>),
     Demo(DemoWords<'a>),
+    Help(Topic),
 }
 
 /// Why the words say nothing.
 #[derive(Clone, Copy, Debug, PartialEq, Eq)]
 pub enum WordsError {
-    Refused(UsageKind),
+    /// They are refused: whose usage is shown, and what is wrong.
+    Refused { topic: Topic, flaw: Flaw },
     NoMemory,
 }
 
@@ -54,7 +56,10 @@ pub fn read_words<'a>(alloc: Global, words: &'a [String]) -> Result<Task<'a>, Wo
     ensures { SaysTask (asked (map string_bytes words.entry.now)) result }
 {
     let Some((command, rest)) = words.split_first() else {
-        return Err(WordsError::Refused(UsageKind::NoCommand));
+        return Err(WordsError::Refused {
+            topic: Topic::General,
+            flaw: Flaw::NoCommand,
+        });
     };
     if command.as_str() == "check" {
         return check_task(alloc, rest);
@@ -65,18 +70,106 @@ pub fn read_words<'a>(alloc: Global, words: &'a [String]) -> Result<Task<'a>, Wo
     if command.as_str() == "demo" {
         return demo_task(alloc, rest);
     }
-    Err(WordsError::Refused(UsageKind::UnknownCommand))
+    first_task(command.as_str(), rest)
+}
+
+/// What a first word asks for that is no command with files.
+fn first_task<'a>(command: &str, rest: &'a [String]) -> Result<Task<'a>, WordsError>
+    ensures { SaysTask (only_reads (first_asked command.now (map string_bytes rest.entry.now))) result }
+{
+    if command == "help" {
+        return help_task(rest);
+    }
+    if is_help(command) {
+        return Ok(Task::Help(Topic::General));
+    }
+    if is_version(command) {
+        return Ok(Task::Help(Topic::Version));
+    }
+    Err(WordsError::Refused {
+        topic: Topic::General,
+        flaw: Flaw::UnknownCommand,
+    })
+}
+
+/// What the words after `help` ask for.
+fn help_task<'a>(rest: &'a [String]) -> Result<Task<'a>, WordsError>
+    ensures { SaysTask (only_reads (help_asked (map string_bytes rest.entry.now))) result }
+{
+    match rest {
+        [] => Ok(Task::Help(Topic::General)),
+        [name] => help_on(topic_of(name.as_str())),
+        _ => Err(WordsError::Refused {
+            topic: Topic::General,
+            flaw: Flaw::UnknownWord,
+        }),
+    }
+}
+
+fn help_on<'a>(topic: Option<Topic>) -> Result<Task<'a>, WordsError>
+    ensures { SaysTask (only_reads (help_on topic)) result }
+{
+    match topic {
+        Some(topic) => Ok(Task::Help(topic)),
+        None => Err(WordsError::Refused {
+            topic: Topic::General,
+            flaw: Flaw::UnknownCommand,
+        }),
+    }
+}
+
+/// What the name of a command stands for as a topic of `help`.
+fn topic_of(name: &str) -> Option<Topic>
+    ensures { result ≡ topic_of name.now }
+{
+    match name {
+        "check" => Some(Topic::Check),
+        "trim" => Some(Topic::Trim),
+        "demo" => Some(Topic::Demo),
+        "help" => Some(Topic::General),
+        _ => None,
+    }
+}
+
+fn is_help(word: &str) -> bool
+    ensures { result ≡ is_help word.now }
+{
+    word == "--help" || word == "-h"
+}
+
+fn is_version(word: &str) -> bool
+    ensures { result ≡ is_version word.now }
+{
+    word == "--version" || word == "-V"
+}
+
+/// Whether help is asked for somewhere among the words of a command.
+fn asks_help(words: &[String]) -> bool
+    ensures { result ≡ asks_help (map string_bytes words.now) }
+{
+    for word in words {
+        if is_help(word.as_str()) {
+            return true;
+        }
+    }
+    false
 }
 
 /// What the words of `check` ask for.
 fn check_task<'a>(alloc: Global, rest: &'a [String]) -> Result<Task<'a>, WordsError>
-    ensures { SaysTask (asked_by (check_said (map string_bytes rest.entry.now))) result }
+    ensures { SaysTask (check_asked (map string_bytes rest.entry.now)) result }
 {
+    if asks_help(rest) {
+        return Ok(Task::Help(Topic::Check));
+    }
     match check_words(alloc, rest) {
         Err(stop) => Err(stop),
         Ok(said) => {
             if said.formula == said.proof {
-                Err(WordsError::Refused(UsageKind::SameName))
+                Err(WordsError::Refused {
+                    topic: Topic::Check,
+                    flaw: Flaw::SameName,
+                })
             } else {
                 Ok(Task::Check(said))
             }
@@ -86,13 +179,19 @@ fn check_task<'a>(alloc: Global, rest: &'a [String]) -> Result<Task<'a>, WordsEr
 
 /// What the words of `trim` ask for.
 fn trim_task<'a>(alloc: Global, rest: &'a [String]) -> Result<Task<'a>, WordsError>
-    ensures { SaysTask (trim_asked (trim_words (map string_bytes rest.entry.now))) result }
+    ensures { SaysTask (trim_asked (map string_bytes rest.entry.now)) result }
 {
+    if asks_help(rest) {
+        return Ok(Task::Help(Topic::Trim));
+    }
     match words_of_trim(alloc, rest) {
         Err(stop) => Err(stop),
         Ok(said) => {
             if has_same_names(&said) {
-                Err(WordsError::Refused(UsageKind::SameName))
+                Err(WordsError::Refused {
+                    topic: Topic::Trim,
+                    flaw: Flaw::SameName,
+                })
             } else {
                 Ok(Task::Trim(said))
             }
@@ -102,13 +201,19 @@ fn trim_task<'a>(alloc: Global, rest: &'a [String]) -> Result<Task<'a>, WordsErr
 
 /// What the words of `demo` ask for.
 fn demo_task<'a>(alloc: Global, rest: &'a [String]) -> Result<Task<'a>, WordsError>
-    ensures { SaysTask (demo_asked (demo_words (map string_bytes rest.entry.now))) result }
+    ensures { SaysTask (demo_asked (map string_bytes rest.entry.now)) result }
 {
+    if asks_help(rest) {
+        return Ok(Task::Help(Topic::Demo));
+    }
     match words_of_demo(alloc, rest) {
         Err(stop) => Err(stop),
         Ok(said) => {
             if demo_shares(&said) {
-                Err(WordsError::Refused(UsageKind::SameName))
+                Err(WordsError::Refused {
+                    topic: Topic::Demo,
+                    flaw: Flaw::SameName,
+                })
             } else {
                 Ok(Task::Demo(said))
             }
@@ -340,38 +445,61 @@ fn read<'a>(matches: &ArgMatches<'a>) -> Option<CheckWords<'a>>
     )
 }
 
-/// The matches, or whether memory ran out.
-fn matches_for<'a>(command: Command<'a>, words: &'a [String]) -> Result<ArgMatches<'a>, WordsError>
+/// What is wrong, by the kind of error that the parser gives.
+fn flaw_of(kind: ErrorKind) -> Flaw
+    ensures { result ≡ flaw_of kind }
+{
+    match kind {
+        ErrorKind::MissingRequiredArgument => Flaw::MissingWord,
+        ErrorKind::ArgumentConflict => Flaw::Repeated,
+        ErrorKind::InvalidValue => Flaw::MissingValue,
+        ErrorKind::TooFewValues => Flaw::MissingValue,
+        ErrorKind::WrongNumberOfValues => Flaw::MissingValue,
+        ErrorKind::NoEquals => Flaw::MissingValue,
+        ErrorKind::TooManyValues => Flaw::SpareValue,
+        _ => Flaw::UnknownWord,
+    }
+}
+
+/// The matches, or what is wrong, or whether memory ran out.
+fn matches_for<'a>(
+    topic: Topic,
+    command: Command<'a>,
+    words: &'a [String],
+) -> Result<ArgMatches<'a>, WordsError>
     requires { is_simple_and_free (app_of command) ≡ true }
-    ensures { Matches (fault_of (app_of command.entry) (map string_bytes words.entry.now))
+    ensures { Matches topic (fault_of (app_of command.entry) (map string_bytes words.entry.now))
         (matches_of (app_of command.entry) (map string_bytes words.entry.now)) result }
 {
     match command.try_get_matches_from(words) {
         Ok(matches) => Ok(matches),
-        Err(error) => {
-            if error.kind() == ErrorKind::OutOfMemory {
-                Err(WordsError::NoMemory)
-            } else {
-                Err(WordsError::Refused(UsageKind::Words))
-            }
-        }
+        Err(error) => match error.kind() {
+            ErrorKind::OutOfMemory => Err(WordsError::NoMemory),
+            kind => Err(WordsError::Refused {
+                topic,
+                flaw: flaw_of(kind),
+            }),
+        },
     }
 }
 
 /// What the words of `check` say, or a refusal exactly where the command doesn't take them.
 fn check_words<'a>(alloc: Global, words: &'a [String]) -> Result<CheckWords<'a>, WordsError>
-    ensures { Says (check_said (map string_bytes words.entry.now)) result }
+    ensures { Says (check_flaws (map string_bytes words.entry.now)) (check_said (map string_bytes words.entry.now)) result }
 {
     let Ok(command) = check_command(alloc) else {
         return Err(WordsError::NoMemory);
     };
-    let matches = match matches_for(command, words) {
+    let matches = match matches_for(Topic::Check, command, words) {
         Ok(matches) => matches,
         Err(stop) => return Err(stop),
     };
     match read(&matches) {
         Some(said) => Ok(said),
-        None => Err(WordsError::Refused(UsageKind::Words)),
+        None => Err(WordsError::Refused {
+            topic: Topic::Check,
+            flaw: Flaw::BadForm,
+        }),
     }
 }
 
@@ -422,18 +550,21 @@ fn read_trim<'a>(matches: &ArgMatches<'a>) -> Option<TrimWords<'a>>
 
 /// What the words of `trim` say, or a refusal exactly where the command doesn't take them.
 fn words_of_trim<'a>(alloc: Global, words: &'a [String]) -> Result<TrimWords<'a>, WordsError>
-    ensures { SaysTrim (trim_words (map string_bytes words.entry.now)) result }
+    ensures { SaysTrim (trim_flaws (map string_bytes words.entry.now)) (trim_words (map string_bytes words.entry.now)) result }
 {
     let Ok(command) = trim_command(alloc) else {
         return Err(WordsError::NoMemory);
     };
-    let matches = match matches_for(command, words) {
+    let matches = match matches_for(Topic::Trim, command, words) {
         Ok(matches) => matches,
         Err(stop) => return Err(stop),
     };
     match read_trim(&matches) {
         Some(said) => Ok(said),
-        None => Err(WordsError::Refused(UsageKind::Words)),
+        None => Err(WordsError::Refused {
+            topic: Topic::Trim,
+            flaw: Flaw::BadForm,
+        }),
     }
 }
 
@@ -505,17 +636,20 @@ fn read_demo<'a>(matches: &ArgMatches<'a>) -> Option<DemoWords<'a>>
 
 /// What the words of `demo` say, or a refusal exactly where the command doesn't take them.
 fn words_of_demo<'a>(alloc: Global, words: &'a [String]) -> Result<DemoWords<'a>, WordsError>
-    ensures { SaysDemo (demo_words (map string_bytes words.entry.now)) result }
+    ensures { SaysDemo (demo_flaws (map string_bytes words.entry.now)) (demo_words (map string_bytes words.entry.now)) result }
 {
     let Ok(command) = demo_command(alloc) else {
         return Err(WordsError::NoMemory);
     };
-    let matches = match matches_for(command, words) {
+    let matches = match matches_for(Topic::Demo, command, words) {
         Ok(matches) => matches,
         Err(stop) => return Err(stop),
     };
     match read_demo(&matches) {
         Some(said) => Ok(said),
-        None => Err(WordsError::Refused(UsageKind::Words)),
+        None => Err(WordsError::Refused {
+            topic: Topic::Demo,
+            flaw: Flaw::BadHoles,
+        }),
     }
 }

@@ -77,12 +77,37 @@ pub(crate) fn status_of(
     Ok(run_with(alloc, limits, list.as_slice(), desk).status())
 }
 
-/// Fails where the run doesn't end with this status or doesn't print this report and nothing else.
+/// The last line of a report that says why in the lines before it, which begin with `c `; nothing of another report.
+pub(crate) fn last_line(report: &str) -> &str {
+    let mut has_reason = false;
+    let mut last = "";
+    for line in report.split_inclusive('\n') {
+        if !last.is_empty() {
+            return "";
+        }
+        if line.starts_with("c ") {
+            has_reason = true;
+        } else {
+            last = line;
+        }
+    }
+    if has_reason { last } else { "" }
+}
+
+/// Whether a run with this status printed this: of a rejection or a refusal the last line, else all.
+fn is_printed(status: u8, report: &str, printed: &str) -> bool {
+    match status {
+        1..=5 => last_line(printed) == report,
+        _ => printed == report,
+    }
+}
+
+/// Fails where the run doesn't end with this status, or doesn't print this report, before which reasons may stand.
 pub(crate) fn wants(status: u8, report: &str, got: u8, printed: &[u8]) -> Result<(), Fail> {
-    if got == status && printed == report.as_bytes() {
+    let printed = str::from_utf8(printed).unwrap_or("no UTF-8");
+    if got == status && is_printed(status, report, printed) {
         return Ok(());
     }
-    let printed = str::from_utf8(printed).unwrap_or("no UTF-8");
     Err(Fail::new(format_args!(
         "status {got} and {printed:?}, where {status} and {report:?} is wanted"
     )))

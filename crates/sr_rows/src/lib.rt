@@ -12,6 +12,8 @@ mod formulas;
 #[cfg(test)]
 mod generator;
 #[cfg(test)]
+mod helps;
+#[cfg(test)]
 mod hints;
 #[cfg(test)]
 mod limits;
@@ -25,6 +27,8 @@ mod outside;
 mod plain;
 #[cfg(test)]
 mod random;
+#[cfg(test)]
+mod reasons;
 #[cfg(test)]
 mod reference;
 #[cfg(test)]

@@ -3,7 +3,7 @@
 ghost use Rattle.std.specs.Prelude.{◌≡◌};
 ghost use Rattle.sr_desk.specs.MemoryView.{outside_of};
 
-use crate::case::{desk_of, status_of};
+use crate::case::{desk_of, last_line, status_of};
 use crate::generator::{Sample, Stop};
 use crate::reference::{Entry, has_rup, is_unsatisfiable, stands_against};
 use crate::trims::is_verified;
@@ -176,7 +176,12 @@ fn is_proved(alloc: Global, sample: &Sample, seed: u64, desk: &mut MemoryDesk) -
 fn try_sample(alloc: Global, sample: &Sample, seed: u64, piece: usize) -> Result<u8, Fail> {
     let mut desk = desk_of(alloc, sample.formula.as_str(), sample.proof.as_str(), piece)?;
     let status = run(alloc, sample, &mut desk)?;
-    let report = str::from_utf8(desk.out_bytes()).unwrap_or("no UTF-8");
+    let printed = str::from_utf8(desk.out_bytes()).unwrap_or("no UTF-8");
+    let report = if status == 0 {
+        printed
+    } else {
+        last_line(printed)
+    };
     if !is_answered(alloc, sample, status, report)? {
         let formula = sample.formula.as_str();
         let proof = sample.proof.as_str();

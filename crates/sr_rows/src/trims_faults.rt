@@ -2,7 +2,7 @@
 ghost use Rattle.std.specs.Prelude.{◌≡◌};
 ghost use Rattle.sr_desk.specs.MemoryView.{outside_of};
 
-use crate::case::{FOUR, SIX, desk_of, status_of, wants};
+use crate::case::{FOUR, SIX, desk_of, last_line, status_of, wants};
 use crate::trims::{SIX_LEMMAS, VERIFIED, make_case, trims};
 use sr_base::{Limits, MOST_BYTES, MOST_CELLS, MOST_IDS, MOST_VARS};
 use sr_desk::{CallKind, MemoryDesk};
@@ -260,7 +260,8 @@ fn is_source_fault(desk: &MemoryDesk, formula: bool) -> bool {
     } else {
         "e source proof\n"
     };
-    is_missing(desk, "l") && is_missing(desk, "k") && desk.out_bytes() == report.as_bytes()
+    let printed = str::from_utf8(desk.out_bytes()).unwrap_or("no UTF-8");
+    is_missing(desk, "l") && is_missing(desk, "k") && last_line(printed) == report
 }
 
 /// Whether a run of which a call is refused is ended by that.

@@ -1,6 +1,6 @@
 use Rattle.std.proofs.Common.{map, string_bytes, ◌∙◌, sym, refl}
 use Rattle.clap.specs.Words.{app_of, found_of, rows_of}
-use Rattle.sr_cli.proofs.WordsLemmas.{trim_taken, trim_refused}
+use Rattle.sr_cli.proofs.WordsLemmas.{trim_taken, trim_refused, trim_left}
 use Rattle.sr_cli.proofs.words.words_of_trim.Goals as goal
 
 pub returns-in-Err : goal.returns-in-Err
@@ -16,4 +16,5 @@ returns c = (
   trim_taken (app_of c.in-Ok.command) (map string_bytes c.args.words.now) (rows_of (found_of c.in-Ok-matches_for.matches)) c.in-Ok.ensures
       c.in-Ok-matches_for.ensures.0 c.in-Ok-matches_for.ensures.1 ∙ sym c.in-None.ensures,
   refl,
+  trim_left (app_of c.in-Ok.command) (map string_bytes c.args.words.now) c.in-Ok.ensures c.in-Ok-matches_for.ensures.0,
 )
