@@ -6,6 +6,7 @@ TABLE     trim      `sr trim` on each NAME.cnf and NAME.bin (a proof in binary) 
           load      `sr trim` on these proofs cut short before the conflict: loading alone
           growth    `sr trim` on inputs that double (bench/inputs.py makes them; CaDiCaL has to be there)
           hostile   `sr trim` on the inputs of bench/hostile.py, each at two sizes
+          million   `sr trim` alone on those of them that grow as their size does, at a million
           demo      `sr demo N` for rising N
           copy      `sr_copy` on the proofs of FOLDER and on what `sr trim` writes of them: reading alone (items), and reading and
                     writing again; build it first, with `cd crates/sr_copy && rt run -- lsr text items data/p`
@@ -152,6 +153,14 @@ def hostile(given, programs, scratch):
             row(kind, best(programs, ["trim", *files, "--lsr", f"{scratch}/lsr"], given.runs), [str(size)])
 
 
+def million(given, programs, scratch):
+    heading("Kind", programs[:1])
+    for kind in ("units", "reasons", "copies", "shared", "shared_newest", "long", "groups", "moved"):
+        files = [f"{scratch}/f", f"{scratch}/p"]
+        subprocess.run([f"{TOP}/bench/hostile.py", kind, "1000000", *files], check=True)
+        row(kind, best(programs[:1], ["trim", *files, "--lsr", f"{scratch}/lsr"], given.runs))
+
+
 def demo(given, programs, scratch):
     heading("Command", programs[:1])
     for holes in (10, 20, 30, 40, 50, 60):
@@ -174,7 +183,7 @@ def copy(given, programs, scratch):
                 print(f"| {name} | {kind} | {form} | {to} | {seconds:.3f} s | {memory:.1f} MB |", flush=True)
 
 
-TABLES = {it.__name__: it for it in (trim, check, load, growth, hostile, demo, copy)}
+TABLES = {it.__name__: it for it in (trim, check, load, growth, hostile, million, demo, copy)}
 
 
 def main():
