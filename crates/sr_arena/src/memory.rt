@@ -99,6 +99,15 @@ impl ClauseMem {
         self.regions.lits(at.index() as usize)
     }
 
+    /// How many literals a clause has. None of them is read.
+    #[inline]
+    pub fn len(&self, at: Cref) -> usize
+        requires { IsHeld self.now at }
+        ensures { result ≡ length (cell_at self.now at).lits }
+    {
+        self.regions.len(at.index() as usize)
+    }
+
     /// Exchanges two literals of a clause.
     #[inline]
     pub fn swap(&mut self, at: Cref, i: usize, j: usize)

@@ -62,6 +62,15 @@ impl Regions {
         as_lits(part)
     }
 
+    /// How many literals a clause has.
+    #[inline]
+    pub fn len(&self, at: usize) -> usize
+        requires { (laid_at self.now at).held ≡ true }
+        ensures { result ≡ length (laid_at self.now at).lits }
+    {
+        (self.words[at - 1].code / 8) as usize
+    }
+
     /// Exchanges two literals of a clause.
     #[inline]
     pub fn swap(&mut self, at: usize, i: usize, j: usize)

@@ -1,6 +1,6 @@
 -- What the end of propagation means.
 use Rattle.std.proofs.lemmas.Bool.Decides.{nat_tests}
-use Rattle.std.proofs.Common.{◌≡◌, ◌≢◌, ◌⊎◌, inl, inr, ◌<◌, ◌≤◌, ◌^◌, ℕ, Bool, true, false, ◌==◌, List, [], ◌∷◌, Option, None, Some, MatchOption, refl, sym, ◌∙◌, ap, subst, arith, length, get_or, suc, take, take_all}
+use Rattle.std.proofs.Common.{◌≡◌, ◌≢◌, ◌⊎◌, inl, inr, ◌<◌, ◌≤◌, ◌^◌, ℕ, Bool, true, false, ◌==◌, List, [], ◌∷◌, Option, None, Some, MatchOption, refl, sym, ◌∙◌, ap, subst, arith, length, get_or, suc, zero, take, take_all}
 use Rattle.sr_base.specs.Literal.{Literal, plus, same, has, NoRepeats}
 use Rattle.sr_base.proofs.Literals.{same_tells}
 use Rattle.sr_arena.specs.Cells.{Cell, Memory, cell_at}
@@ -13,8 +13,8 @@ use Rattle.sr_watch.specs.declared.watches.Watches.{Watches}
 use Rattle.sr_watch.specs.declared.parts.Part.{Part}
 use Rattle.sr_watch.specs.declared.parts.Part.TheVariants.{Core, All}
 use Rattle.sr_watch.specs.Parts.{counts, is_core}
-use Rattle.sr_watch.specs.State.{Slot, slot_in, AllFalse, IsSound}
-use Rattle.sr_watch.specs.Changes.{IsReordered, Derives}
+use Rattle.sr_watch.specs.State.{Slot, slot_in, IsOfPart, assumed_in, AllFalse, IsSound}
+use Rattle.sr_watch.specs.Changes.{IsReordered, Derives, AreDerivedBy}
 use Rattle.sr_watch.specs.Inside.{part_of, slots_of, derived_in, AreKnown, IsKept}
 use Rattle.sr_watch.specs.Running.{IsNothing, IsFalse}
 use Rattle.sr_watch.specs.Marks.{joined}
@@ -22,9 +22,10 @@ use Rattle.sr_watch.specs.Trail.{Entries, AreEntries}
 use Rattle.sr_watch.specs.Rising.{AreRising}
 use Rattle.sr_watch.specs.Scanning.{IsSettled}
 use Rattle.sr_watch.specs.Watching.{SomeTrue, IsGuarded, AreGuarded, is_short, is_on, clause_on}
-use Rattle.sr_watch.specs.Walking.{IsTurnedCell, IsStep, IsPropagated, HasSameShape, IsFalseOn, IsFalsified, AreSettled}
+use Rattle.sr_watch.specs.Walking.{IsTurnedCell, AreReasonsOn, IsStep, IsPropagated, IsGrown, HasSameShape, IsFalseOn, IsFalsified, AreSettled}
 use Rattle.sr_watch.specs.Resting.{is_pending, IsResting, IsPrepared, AreWatched}
 use Rattle.sr_watch.proofs.Tables.{few}
+use Rattle.sr_watch.proofs.Answering.{entry_assumed}
 use Rattle.sr_watch.proofs.Clauses.{closed_all, none_empty}
 use Rattle.sr_watch.proofs.Slots.{slot_is, known_same}
 use Rattle.sr_watch.proofs.Attached.{room_kept}
@@ -189,6 +190,40 @@ propagated_derives m n e g x = record {
   where
     reordered : (r : ℕ) → IsTurnedCell (cell_at m r) (cell_at n r) → IsReordered (slot_in (slots_of m) r) (slot_in (slots_of n) r)
     reordered r t = rw (slot_is m r, slot_is n r) (record { held = t.held; number = t.number; part = rw (t.marked, t.flagged) refl; size = t.size; set = t.set })
+
+-- an assumed entry behind the first ones makes the assumed literals more
+more_assumed : (ls : List Literal) (rs : List ℕ) (n i : ℕ) → length rs ≡ length ls → n ≤ i → i < length ls → get_or rs i 0 ≡ 0 → length (assumed_in (take n ls) (take n rs)) < length (assumed_in ls rs)
+more_assumed [] rs n i e le lt z = absurd (omega (arith, lt))
+more_assumed (l ∷ ls) [] n i e le lt z = absurd (omega (arith, e))
+more_assumed (l ∷ ls) (r ∷ rs) zero i e le lt z = some (assumed_in (l ∷ ls) (r ∷ rs)) (get_or (l ∷ ls) i (plus 0)) (entry_assumed (l ∷ ls) (r ∷ rs) i lt (sym e) z)
+  where
+    some : (xs : List Literal) (k : Literal) → has k xs ≡ true → 0 < length xs
+    some [] k h = absurd cc
+    some (x ∷ xs) k h = omega arith
+more_assumed (l ∷ ls) (r ∷ rs) (suc n) zero e le lt z = absurd (omega (arith, le))
+more_assumed (l ∷ ls) (r ∷ rs) (suc n) (suc i) e le lt z =
+    let rest : length (assumed_in (take n ls) (take n rs)) < length (assumed_in ls rs) = more_assumed ls rs n i (omega (arith, e)) (omega (arith, le)) (omega (arith, lt)) z in
+    by_test (r == 0) (λ t. rw t (omega (arith, rest))) (λ t. rw t rest)
+
+grown_derived : (e g : Entries) → length e.reasons ≡ length e.lits → length g.reasons ≡ length g.lits → IsGrown e g → (i : ℕ) → length e.lits ≤ i → i < length g.lits → get_or g.reasons i 0 ≢ 0
+grown_derived e g a b x i le lt z =
+    let more = more_assumed g.lits g.reasons (length e.lits) i b le lt z in
+    let reasons : take (length e.lits) g.reasons ≡ e.reasons = subst (λ n. take n g.reasons ≡ e.reasons) a x.reasons in
+    let same : assumed_in (take (length e.lits) g.lits) (take (length e.lits) g.reasons) ≡ assumed_in g.lits g.reasons = rw (x.lits, reasons) (sym x.assumed) in
+    omega (arith, more, ap (length {A = Literal}) same)
+
+-- what is derived over the core has reasons of the core
+pub propagated_by : (p : Part) (m n : Memory) (e g : Entries) → length e.reasons ≡ length e.lits → IsSound (joined g n) → IsPropagated m n e g → (is_core p ≡ true → AreReasonsOn true n e g) → AreDerivedBy p (joined e m) (joined g n)
+propagated_by p m n e g a s x of i le lt =
+    let some = grown_derived e g a s.sizes x.grown i le lt in (some, by p of)
+  where
+    by : (q : Part) → (is_core q ≡ true → AreReasonsOn true n e g) → IsOfPart (joined g n) q (get_or g.reasons i 0)
+    by All o = s.attached i lt (grown_derived e g a s.sizes x.grown i le lt)
+    by Core o =
+        let d = grown_derived e g a s.sizes x.grown i le lt in
+        let low : length e.reasons ≤ i = omega (arith, a, le) in
+        let high : 0 < get_or g.reasons i 0 = omega (arith, d) in
+        subst (λ (c : Slot). counts Core c.part ≡ true) (sym (slot_is n (get_or g.reasons i 0))) (on_is_core (cell_at n (get_or g.reasons i 0)) (o refl i low high))
 
 pub propagated_watched : (m n : Memory) (known : List ℕ) (e g : Entries) (core core' rest rest' : Watches) → IsPropagated m n e g → HasSameShape core.lists core'.lists → HasSameShape rest.lists rest'.lists → IsResting true n g core' → IsResting false n g rest' → AreWatched m known e core rest → AreWatched n known g core' rest'
 propagated_watched m n known e g core core' rest rest' x cs rs cr rr y = record {

@@ -2,7 +2,7 @@
 use Rattle.std.specs.Prelude.{ℕ, ◌≡◌, ◌≢◌, ◌<◌, ◌≤◌, ◌⊎◌, Option, Some, None, List, [], ◌∷◌, ◌++◌, cond, length, take, slice_set}
 use Rattle.sr_base.specs.Literal.{Literal, has, SameSet}
 use Rattle.sr_watch.specs.declared.parts.Part.{Part}
-use Rattle.sr_watch.specs.State.{Slot, State, no_clause, slot_in, slot_at, lits_at, lit_at, reason_at, assumed}
+use Rattle.sr_watch.specs.State.{Slot, State, no_clause, slot_in, slot_at, lits_at, lit_at, reason_at, IsOfPart, assumed}
 
 -- the clause is under a reference that named none, and all else stays
 pub record IsAdded (old new : State) (at : ℕ) (c : Slot) : Type 0 where
@@ -68,3 +68,7 @@ pub record Derives (old new : State) : Type 0 where
   pub reasons : take (length old.reasons) new.reasons ≡ old.reasons
   pub assumed : assumed new ≡ assumed old
   pub rest : new ≡ record old { slots = new.slots; lits = new.lits; reasons = new.reasons }
+
+-- each entry behind the old ones is derived, by a clause of the part
+abbrev pub AreDerivedBy : Part → State → State → Type 0
+AreDerivedBy p old new = (i : ℕ) → length old.lits ≤ i → i < length new.lits → (reason_at new i ≢ 0) × IsOfPart new p (reason_at new i)

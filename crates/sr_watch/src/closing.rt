@@ -1,11 +1,13 @@
 // Propagation over the core, or over all.
-ghost use Rattle.std.specs.Prelude.{◌≡◌, true, false, length, MatchOption};
+ghost use Rattle.std.specs.Prelude.{◌≡◌, ◌≤◌, ◌+◌, ◌*◌, true, false, length, MatchOption};
 ghost use Rattle.sr_model.specs.Substitution.{has_pair};
 ghost use Rattle.sr_watch.specs.State.{IsSound};
 ghost use Rattle.sr_watch.specs.Marks.{joined};
 ghost use Rattle.sr_watch.specs.Running.{IsNothing, IsFalse};
-ghost use Rattle.sr_watch.specs.Walking.{IsStep, IsPropagated, HasSameShape, IsFalseOn, IsFalsified, AreSettled};
+ghost use Rattle.sr_watch.specs.Parts.{is_core};
+ghost use Rattle.sr_watch.specs.Walking.{IsStep, IsPropagated, AreReasonsOn, HasSameShape, IsFalseOn, IsFalsified, AreSettled};
 ghost use Rattle.sr_watch.specs.Resting.{IsResting, IsPrepared};
+ghost use Rattle.sr_watch.specs.Reading.{holders, shorts, falls_from, most_reads};
 
 use crate::parts::Part;
 use crate::settling::settle_all;
@@ -30,6 +32,7 @@ pub fn close_core<L: Ledger>(
     ensures shape { HasSameShape core.old.lists core.new.lists }
     ensures resting { IsResting true memory.new trail.new core.new }
     ensures settled { MatchOption result (AreSettled true memory.new trail.new.lits) (λ at. IsFalseOn true memory.new trail.new.lits at) }
+    ensures ticks { steps.new ≤ steps.old + falls_from (holders true memory.old) trail.new.lits core.old.done + shorts true memory.old + 1 }
 {
     if let Some(at) = settle_all(memory, core, trail, true, steps) {
         return Some(at);
@@ -60,6 +63,7 @@ pub fn close_all<L: Ledger>(
     ensures core_rests { IsResting true memory.new trail.new core.new }
     ensures rest_rests { IsResting false memory.new trail.new rest.new }
     ensures settled { MatchOption result (AreSettled true memory.new trail.new.lits × AreSettled false memory.new trail.new.lits) (λ at. IsFalsified memory.new trail.new.lits at) }
+    ensures ticks { steps.new ≤ steps.old + falls_from (holders true memory.old) trail.new.lits core.old.done + falls_from (holders false memory.old) trail.new.lits rest.old.done + shorts true memory.old + shorts false memory.old + 2 }
 {
     if let Some(at) = settle_all(memory, core, trail, true, steps) {
         return Some(at);
@@ -102,7 +106,9 @@ pub fn close_part<L: Ledger>(
     ensures rest_shape { HasSameShape rest.old.lists rest.new.lists }
     ensures core_rests { IsResting true memory.new trail.new core.new }
     ensures rest_rests { IsResting false memory.new trail.new rest.new }
+    ensures reasons { is_core part ≡ true → AreReasonsOn true memory.new trail.old trail.new }
     ensures found { MatchOption result (IsNothing part (joined trail.new memory.new)) (λ at. IsFalse part (joined trail.new memory.new) at) }
+    ensures ticks { steps.new ≤ steps.old + most_reads part (joined trail.new memory.new) }
 {
     if !part.is_core() {
         return close_all(memory, core, rest, trail, steps);

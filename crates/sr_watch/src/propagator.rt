@@ -3,9 +3,11 @@ ghost use Rattle.std.specs.Prelude.{ℕ, List, ◌≡◌, ◌≢◌, ◌≤◌, 
 ghost use Rattle.sr_base.specs.Literal.{complement, has, variable, NoRepeats, SameSet};
 ghost use Rattle.sr_arena.specs.Cells.{reference};
 ghost use Rattle.sr_watch.specs.State.{no_clause, held_clause, slot_at, lits_at, reason_at, AllFalse, IsHeld, IsAttached, held_cells, AreWithin, assumed, value_in, reason_in, IsSound};
-ghost use Rattle.sr_watch.specs.Changes.{IsAdded, with_part, cut_to, with_assumed, AreReordered, IsAttachedTo, IsDetached, Derives};
+ghost use Rattle.sr_watch.specs.Changes.{IsAdded, with_part, cut_to, with_assumed, AreReordered, IsAttachedTo, IsDetached, Derives, AreDerivedBy};
 ghost use Rattle.sr_watch.specs.Meaning.{Means, IsLeast, IsAsked};
 ghost use Rattle.sr_watch.specs.Lean.{IsChain, stands_in};
+ghost use Rattle.sr_watch.specs.Trail.{place_in};
+ghost use Rattle.sr_watch.specs.Reading.{most_reads};
 ghost use Rattle.sr_watch.specs.Running.{FindsSelf, asked_clause, ClosesAt, AreAttached, IsSpare, IsUsed};
 ghost use Rattle.sr_base.specs.declared.literal.TheConstants.{MOST_VARS};
 
@@ -272,6 +274,25 @@ impl Propagator {
         self.trail.lits()
     }
 
+    /// The reasons of the entries, in order: the number of a reference, and 0 where the entry is assumed.
+    #[inline]
+    pub fn reasons(&self) -> &[u32]
+        ensures value { result.now ≡ self.now.reasons }
+        ensures sound { IsSound self.now }
+    {
+        self.trail.reasons()
+    }
+
+    /// One more than the place where a literal comes first among the entries; 0 where it isn't true.
+    #[inline]
+    pub fn place(&self, l: Lit) -> u32
+        requires { variable l ≤ self.now.vars }
+        ensures value { result ≡ place_in self.now.lits l }
+        ensures sound { IsSound self.now }
+    {
+        self.trail.place(l)
+    }
+
     /// Assumes a literal. It changes nothing where the literal is assumed already.
     pub fn assume(&mut self, l: Lit)
         requires { variable l ≤ self.old.vars }
@@ -327,10 +348,12 @@ impl Propagator {
     /// An assumed pair, or a derived literal whose complement was assumed later, is answered at once.
     pub fn propagate<L: Ledger>(&mut self, part: Part, steps: &mut Steps<L>) -> Found
         ensures derives { Derives self.old self.new }
+        ensures by_part { AreDerivedBy part self.old self.new }
         ensures means { Means part self.new result }
         ensures cells { held_cells self.new ≡ held_cells self.old }
         ensures sound { IsSound self.new }
         ensures least { IsLeast self.new }
+        ensures reads { steps.new ≤ steps.old + most_reads part self.new }
     {
         if let Some(found) = self.against_itself() {
             return found;

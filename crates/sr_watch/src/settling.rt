@@ -1,6 +1,6 @@
 // What comes before the walk: clauses of at most one literal, and the pending one.
-ghost use Rattle.std.specs.Prelude.{ℕ, [], ◌≡◌, ◌≢◌, ◌<◌, ◌≤◌, ◌-◌, true, false, None, length, take, slice_index_or, MatchOption};
-ghost use Rattle.sr_base.specs.Literal.{NoRepeats, variable};
+ghost use Rattle.std.specs.Prelude.{ℕ, [], ◌≡◌, ◌≢◌, ◌<◌, ◌≤◌, ◌+◌, ◌-◌, ◌*◌, true, false, None, length, take, slice_index_or, MatchOption};
+ghost use Rattle.sr_base.specs.Literal.{NoRepeats, variable, has};
 ghost use Rattle.sr_arena.specs.Cells.{IsHeld, cell_at};
 ghost use Rattle.sr_watch.specs.State.{IsSound, IsAttached, AllFalse, AreWithin};
 ghost use Rattle.sr_watch.specs.Marks.{joined};
@@ -9,6 +9,7 @@ ghost use Rattle.sr_watch.specs.Scanning.{Stands};
 ghost use Rattle.sr_watch.specs.Watching.{SomeTrue, IsStuck, AreStocked, AreLinked};
 ghost use Rattle.sr_watch.specs.Walking.{IsGrown, AreReasonsOnly, AreReasonsOn, IsStep, HasSameShape, IsFalseOn};
 ghost use Rattle.sr_watch.specs.Resting.{is_pending, PendingIsTrue, IsResting, IsPrepared, AreShortListed, AreShortTrue};
+ghost use Rattle.sr_watch.specs.Reading.{shorts};
 
 use crate::trail::Trail;
 use crate::watches::{SEEN, UNSEEN, Watches, is_on};
@@ -61,6 +62,7 @@ fn settle<L: Ledger>(memory: &ClauseMem, trail: &mut Trail, at: Cref, steps: &mu
     ensures only { AreReasonsOnly at trail.old trail.new }
     ensures falsified { result ≡ true → (trail.new ≡ trail.old) × AllFalse trail.old.lits (cell_at memory.now at).lits }
     ensures settled { result ≡ false → IsStuck trail.old.lits (cell_at memory.now at).lits → SomeTrue trail.new.lits (cell_at memory.now at).lits }
+    ensures ticks { steps.new ≡ steps.old + 1 }
 {
     match look_at(trail, memory.lits(at, steps)) {
         Standing::Settled => false,
@@ -70,6 +72,36 @@ fn settle<L: Ledger>(memory: &ClauseMem, trail: &mut Trail, at: Cref, steps: &mu
         }
         Standing::Refuted => true,
     }
+}
+
+/// The same of a clause of at most one literal, which is listed with that literal. Where the literal is true, the clause isn't
+/// read.
+fn settle_short<L: Ledger>(
+    memory: &ClauseMem,
+    trail: &mut Trail,
+    blocker: Lit,
+    at: Cref,
+    steps: &mut Steps<L>,
+) -> bool
+    requires sound { IsSound (joined trail.old memory.now) }
+    requires held { IsHeld memory.now at }
+    requires attached { IsAttached (joined trail.old memory.now) at }
+    requires listed { 0 < length (cell_at memory.now at).lits → has blocker (cell_at memory.now at).lits ≡ true }
+    ensures grown { IsGrown trail.old trail.new }
+    ensures sound { IsSound (joined trail.new memory.now) }
+    ensures only { AreReasonsOnly at trail.old trail.new }
+    ensures falsified { result ≡ true → (trail.new ≡ trail.old) × AllFalse trail.old.lits (cell_at memory.now at).lits }
+    ensures settled { result ≡ false → IsStuck trail.old.lits (cell_at memory.now at).lits → SomeTrue trail.new.lits (cell_at memory.now at).lits }
+    ensures ticks { steps.new ≤ steps.old + 1 }
+    ensures unread { 0 < length (cell_at memory.now at).lits → has blocker trail.old.lits ≡ true → (steps.new ≡ steps.old) × (result ≡ false) }
+{
+    if memory.len(at) == 0 {
+        return settle(memory, trail, at, steps);
+    }
+    if trail.is_true(blocker) {
+        return false;
+    }
+    settle(memory, trail, at, steps)
 }
 
 /// How many of the first entries make a literal true, and whether the last of these has the reason.
@@ -116,6 +148,7 @@ fn settle_units<L: Ledger>(
     ensures short { AreShortListed core memory.now lists.new (take shade.new trail.new.lits) trail.new.reasons top.new }
     ensures reasons { AreReasonsOn core memory.now trail.old trail.new }
     ensures settled { MatchOption result (AreShortTrue core memory.now trail.new.lits) (λ at. IsFalseOn core memory.now trail.new.lits at) }
+    ensures ticks { steps.new ≤ steps.old + shorts core memory.now }
 {
     if lists.keys() < 2 {
         return None;
@@ -124,7 +157,7 @@ fn settle_units<L: Ledger>(
     while let Some(watch) = lists.next() {
         let Watch { blocker, at } = watch;
         if is_on(memory, at, core) {
-            if settle(memory, trail, at, steps) {
+            if settle_short(memory, trail, blocker, at, steps) {
                 lists.keep(Watch { blocker, at });
                 lists.end();
                 return Some(at);
@@ -158,6 +191,7 @@ fn settle_pending<L: Ledger>(
     ensures sound { IsSound (joined trail.new memory.now) }
     ensures settled { MatchOption result ((pending.new ≡ None) × PendingIsTrue memory.now trail.new.lits pending.old)
         (λ at. (pending.new ≡ pending.old) × (is_pending pending.old at ≡ true) × AllFalse trail.new.lits (cell_at memory.now at).lits) }
+    ensures ticks { steps.new ≤ steps.old + 1 }
 {
     let Some(at) = *pending else {
         return None;
@@ -184,6 +218,8 @@ pub fn settle_all<L: Ledger>(
     ensures shape { HasSameShape watches.old.lists watches.new.lists }
     ensures resting { IsResting core memory.now trail.new watches.new }
     ensures settled { MatchOption result (IsPrepared core memory.now trail.new watches.new) (λ at. IsFalseOn core memory.now trail.new.lits at) }
+    ensures done { watches.new.done ≡ watches.old.done }
+    ensures ticks { steps.new ≤ steps.old + shorts core memory.now + 1 }
 {
     if let Some(at) = settle_units(
         memory,

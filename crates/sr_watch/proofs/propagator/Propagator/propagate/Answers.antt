@@ -1,11 +1,11 @@
 use Rattle.std.proofs.Common.{◌≡◌, false, ap, sym, subst, ◌∙◌}
 use Rattle.sr_model.specs.Substitution.{has_pair}
 use Rattle.sr_watch.specs.State.{State, held_cells}
-use Rattle.sr_watch.specs.Changes.{Derives}
+use Rattle.sr_watch.specs.Changes.{Derives, AreDerivedBy}
 use Rattle.sr_watch.specs.Marks.{joined, AreReady}
 use Rattle.sr_watch.proofs.Answering.{self_means, still_means, conflict_means, least}
 use Rattle.sr_watch.proofs.Derivations.{spares_turned}
-use Rattle.sr_watch.proofs.Closes.{propagated_kept, propagated_derives, propagated_watched}
+use Rattle.sr_watch.proofs.Closes.{propagated_kept, propagated_derives, propagated_by, propagated_watched}
 use Rattle.sr_watch.proofs.Keeping.{cells_are}
 use Rattle.sr_watch.proofs.propagator.Propagator.propagate.Goals as goal
 use Rattle.sr_watch.proofs.propagator.Propagator.propagate.Goals.{in-Some-close_part, in-None}
@@ -47,3 +47,7 @@ returns-clause-cells g c =
 
 pub returns-clause-least : goal.returns-clause-least
 returns-clause-least g c = least (joined c.close_part.new.trail c.close_part.new.memory) c.close_part.ensures.sound
+
+pub returns-clause-by_part : goal.returns-clause-by_part
+returns-clause-by_part g c = subst (λ (s : State). AreDerivedBy c.args.part s (joined c.close_part.new.trail c.close_part.new.memory)) c.self.view_is
+    (propagated_by c.args.part c.self.inside.memory c.close_part.new.memory c.self.inside.trail c.close_part.new.trail c.self.invariant.0.sound.sizes c.close_part.ensures.sound c.close_part.ensures.steps c.close_part.ensures.reasons)
