@@ -146,7 +146,8 @@ def hostile(given, programs, scratch):
     heading("Kind", programs, ["size"])
     large = ["units", "reasons", "copies", "shared", "shared_newest", "long"]
     small = ["chained", "groups", "moved"]
-    for kind, size in [(k, 200000) for k in large] + [(k, 10000) for k in small]:
+    sums = ["one_bucket", "one_sum"]
+    for kind, size in [(k, 200000) for k in large] + [(k, 10000) for k in small] + [(k, 80000) for k in sums]:
         for size in (size // 2, size):
             files = [f"{scratch}/f", f"{scratch}/p"]
             subprocess.run([f"{TOP}/bench/hostile.py", kind, str(size), *files], check=True)

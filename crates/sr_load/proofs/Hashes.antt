@@ -10,7 +10,7 @@ use Rattle.sr_base.specs.Literal.{Literal, literal_code, same, has, SameSet, NoR
 use Rattle.sr_base.proofs.Literals.{same_tells, has_append, has_filter, not_has_filter}
 use Rattle.sr_base.proofs.Plain.{filter_absent}
 use Rattle.sr_model.proofs.Soundness.{by_test, has_kept}
-use Rattle.sr_load.specs.Buckets.{mixed, hash_of, marked, AreMarked, HaveRoom, is_marked_set}
+use Rattle.sr_load.specs.Buckets.{one_of, other_of, sum_of, both_of, hash_of, marked, AreMarked, HaveRoom, is_marked_set}
 
 -- a test of all elements, one after another
 list_all_push : (p : Literal → Bool) (xs : List Literal) (l : Literal) → list_all p (xs ++ l ∷ []) ≡ (list_all p xs && p l)
@@ -109,8 +109,11 @@ length_sum (l ∷ c) = omega (arith, length_sum c, sum_by-cons (λ (l : Literal)
 pub length_same : (c d : List Literal) → NoRepeats c → NoRepeats d → SameSet c d → length c ≡ length d
 length_same c d n m s = length_sum c ∙ sum_same (λ l. 1) c d n m s ∙ sym (length_sum d)
 
+sum_of_same : (mix : ℕ → ℕ) (c d : List Literal) → NoRepeats c → NoRepeats d → SameSet c d → sum_of mix c ≡ sum_of mix d
+sum_of_same mix c d n m s = ap (λ x. (x + sum_by (λ l. mix (literal_code l)) c) % 2 ^ 64) (length_same c d n m s) ∙ ap (λ x. (length d + x) % 2 ^ 64) (sum_same (λ l. mix (literal_code l)) c d n m s)
+
 pub hash_same : (c d : List Literal) → NoRepeats c → NoRepeats d → SameSet c d → hash_of c ≡ hash_of d
-hash_same c d n m s = ap (λ x. (x + sum_by mixed c) % 2 ^ 64) (length_same c d n m s) ∙ ap (λ x. (length d + x) % 2 ^ 64) (sum_same mixed c d n m s)
+hash_same c d n m s = ap (λ x. both_of x (sum_of other_of c)) (sum_of_same one_of c d n m s) ∙ ap (both_of (sum_of one_of d)) (sum_of_same other_of c d n m s)
 
 -- as many literals, all of which are of the other clause
 pub included_same : (c d : List Literal) → NoRepeats c → NoRepeats d → length c ≡ length d → ((l : Literal) → has l c ≡ true → has l d ≡ true) → SameSet c d

@@ -1,57 +1,96 @@
--- Clauses by their hashes. In a bucket the numbers fall: its head is the greatest, and each leads to the next one below.
-use Rattle.std.specs.Prelude.{[], ◌∷◌, ◌++◌, ◌-◌, slice_set, ℕ, ◌+◌, ◌*◌, ◌/◌, ◌%◌, ◌^◌, ◌<◌, ◌≤◌, ◌≡◌, ◌&&◌, ◌==◌, Bool, true, false, cond, List, length, slice_index_or, Some, sum_by, bit_xor}
+-- Clauses by their hashes. A bucket has the numbers of the alive clauses of one hash, in rising order.
+use Rattle.std.specs.Prelude.{[], ◌∷◌, ◌++◌, ℕ, ◌+◌, ◌*◌, ◌/◌, ◌%◌, ◌^◌, ◌<◌, ◌≤◌, ◌≡◌, ◌&&◌, ◌==◌, nat_eq, Bool, true, false, cond, List, length, remove, slice_index_or, Option, Some, None, sum_by, bit_xor}
 use Rattle.std.specs.List.{list_all}
+use Rattle.std.specs.Map.{lookup}
+use Rattle.sr_load.specs.declared.numbers.Numbers.{Numbers}
+use Rattle.sr_load.specs.declared.numbers.Numbers.TheVariants.{One, More}
 use Rattle.sr_base.specs.Literal.{Literal, literal_code, has, SameSet, NoRepeats}
 use Rattle.sr_model.specs.Chain.{Numbered, clause_of}
-use Rattle.sr_load.specs.Numbers.{entry_of}
+use Rattle.sr_load.specs.declared.buckets.Spot.{Spot}
 use Rattle.sr_load.specs.Loaded.{LoadedState, all_in}
 
--- a number of 64 bits in which each bit of a code plays a part
-unfoldable pub mix_of : ℕ → ℕ
-mix_of n =
-    let x = (n * 0x9E37_79B9_7F4A_7C15) % 2 ^ 64 in
-    let y = (bit_xor x (x / 2 ^ 32) * 0xD6E8_FEB8_6659_FD93) % 2 ^ 64 in
+-- a number of 64 bits in which each bit of another one plays a part, by two factors
+unfoldable pub mix_of : ℕ → ℕ → ℕ → ℕ
+mix_of first second n =
+    let x = (n * first) % 2 ^ 64 in
+    let y = (bit_xor x (x / 2 ^ 32) * second) % 2 ^ 64 in
     bit_xor y (y / 2 ^ 32)
 
-abbrev pub mixed : Literal → ℕ
-mixed l = mix_of (literal_code l)
+-- two such numbers that have nothing to do with each other
+abbrev pub one_of : ℕ → ℕ
+one_of n = mix_of 0x9E37_79B9_7F4A_7C15 0xD6E8_FEB8_6659_FD93 n
+
+abbrev pub other_of : ℕ → ℕ
+other_of n = mix_of 0xBF58_476D_1CE4_E5B9 0x94D0_49BB_1331_11EB n
+
+-- a sum over the literals of a clause
+abbrev pub sum_of : (ℕ → ℕ) → List Literal → ℕ
+sum_of mix ls = (length ls + sum_by (λ l. mix (literal_code l)) ls) % 2 ^ 64
+
+-- two sums in one number: where one of them is the same in two clauses, the other one decides
+abbrev pub both_of : ℕ → ℕ → ℕ
+both_of a b = other_of ((one_of a + b) % 2 ^ 64)
 
 -- the hash of a clause; the order of its literals plays no part
 abbrev pub hash_of : List Literal → ℕ
-hash_of ls = (length ls + sum_by mixed ls) % 2 ^ 64
+hash_of ls = both_of (sum_of one_of ls) (sum_of other_of ls)
 
--- the clause of a number is in a bucket
-pub record IsIn (live : Numbered) (count bucket n : ℕ) : Type 0 where
+-- the clause of a number has a hash
+pub record IsIn (live : Numbered) (hash n : ℕ) : Type 0 where
   pub clause : List Literal
   pub found : clause_of live n ≡ Some clause
-  pub hashed : hash_of clause % count ≡ bucket
+  pub hashed : hash_of clause ≡ hash
 
--- the greatest number below a limit in a bucket, 0 where there is none
-pub record IsGreatest (live : Numbered) (count bucket limit n : ℕ) : Type 0 where
-  pub some : 0 < n → (n < limit) × IsIn live count bucket n
-  pub most : (k : ℕ) → k < limit → IsIn live count bucket k → k ≤ n
+-- a number stands among others
+pub record HasPlace (numbers : List ℕ) (n : ℕ) : Type 0 where
+  pub at : ℕ
+  pub within : at < length numbers
+  pub here : slice_index_or numbers at 0 ≡ n
 
+-- numbers are those below a limit whose clauses have a hash, in rising order
+pub record IsBucket (live : Numbered) (limit hash : ℕ) (numbers : List ℕ) : Type 0 where
+  pub known : (i : ℕ) → i < length numbers → (slice_index_or numbers i 0 < limit) × IsIn live hash (slice_index_or numbers i 0)
+  pub rising : (i j : ℕ) → i < j → j < length numbers → slice_index_or numbers i 0 < slice_index_or numbers j 0
+  pub all : (n : ℕ) (c : List Literal) → n < limit → clause_of live n ≡ Some c → hash_of c ≡ hash → HasPlace numbers n
+
+-- what contracts see of numbers by hash: each hash that has numbers, with these
 pub record Bucketed : Type 0 where
-  pub heads : List ℕ
-  pub next : List ℕ
+  pub entries : List (ℕ × Numbers)
+
+abbrev pub numbers_in : Numbers → List ℕ
+numbers_in (One n) = n ∷ []
+numbers_in (More v) = v.value.items
+
+abbrev pub numbers_of : Option Numbers → List ℕ
+numbers_of None = []
+numbers_of (Some v) = numbers_in v
+
+-- the numbers under a hash
+abbrev pub bucket_of : Bucketed → ℕ → List ℕ
+bucket_of b hash = numbers_of (lookup (nat_eq hash) b.entries)
 
 -- the clauses of numbers below a limit are in their buckets
-pub record IsIndexed (live : Numbered) (limit : ℕ) (b : Bucketed) : Type 0 where
-  pub size : length b.next + 1 ≡ limit
-  pub heads : (i : ℕ) → i < length b.heads → IsGreatest live (length b.heads) i limit (slice_index_or b.heads i 0)
-  pub next : (n : ℕ) (c : List Literal) → n < limit → clause_of live n ≡ Some c → IsGreatest live (length b.heads) (hash_of c % length b.heads) n (entry_of b.next n)
+abbrev pub IsIndexed : Numbered → ℕ → Bucketed → Type 0
+IsIndexed live limit b = (hash : ℕ) → IsBucket live limit hash (bucket_of b hash)
 
--- the greatest number of a clause that is a set, and the number that leads to it, or the head of its bucket
-pub record IsSpot (live : Numbered) (b : Bucketed) (c : List Literal) (bucket id before : ℕ) : Type 0 where
+-- one number more under a hash, behind the others
+abbrev pub HasMore : Bucketed → Bucketed → ℕ → ℕ → Type 0
+HasMore old new hash n = (h : ℕ) → bucket_of new h ≡ cond (nat_eq hash h) (bucket_of old h ++ n ∷ []) (bucket_of old h)
+
+-- the number at a place under a hash is gone
+abbrev pub HasLess : Bucketed → Bucketed → ℕ → ℕ → Type 0
+HasLess old new hash place = (h : ℕ) → bucket_of new h ≡ cond (nat_eq hash h) (remove (bucket_of old h) place) (bucket_of old h)
+
+-- the greatest number of a clause that is a set, and its place in the bucket of the set's hash
+pub record IsSpot (live : Numbered) (numbers : List ℕ) (c : List Literal) (s : Spot) : Type 0 where
   pub clause : List Literal
-  pub found : clause_of live id ≡ Some clause
+  pub found : clause_of live s.id ≡ Some clause
   pub same : SameSet clause c
-  pub some : 0 < id
-  pub hashed : hash_of clause % length b.heads ≡ bucket
-  pub within : bucket < length b.heads
-  pub greatest : (n : ℕ) (d : List Literal) → clause_of live n ≡ Some d → SameSet d c → n ≤ id
-  pub head : before ≡ 0 → slice_index_or b.heads bucket 0 ≡ id
-  pub link : 0 < before → IsIn live (length b.heads) bucket before × (entry_of b.next before ≡ id)
+  pub hashed : s.hash ≡ hash_of c
+  pub hashed_clause : hash_of clause ≡ hash_of c
+  pub within : s.place < length numbers
+  pub here : slice_index_or numbers s.place 0 ≡ s.id
+  pub greatest : (n : ℕ) (d : List Literal) → clause_of live n ≡ Some d → SameSet d c → n ≤ s.id
 
 -- no clause is the set
 abbrev pub IsNowhere : Numbered → List Literal → Type 0
@@ -78,28 +117,7 @@ AreClear marks = (l : Literal) → marked marks l ≡ false
 abbrev pub is_marked_set : List Bool → ℕ → List Literal → Bool
 is_marked_set marks count ls = (length ls == count) && list_all (marked marks) ls
 
--- one clause more, under the next number
-abbrev pub with_clause : Bucketed → List Literal → Bucketed
-with_clause b ls =
-    let i = hash_of ls % length b.heads in record { heads = slice_set b.heads i (length b.next + 1); next = b.next ++ (slice_index_or b.heads i 0) ∷ [] }
-
--- the next number has no clause
-abbrev pub with_none : Bucketed → Bucketed
-with_none b = record b { next = b.next ++ 0 ∷ [] }
-
--- what led to a number leads to the one below it
-abbrev pub without_spot : Bucketed → ℕ → ℕ → ℕ → Bucketed
-without_spot b bucket id before =
-    cond (before == 0) (record b { heads = slice_set b.heads bucket (entry_of b.next id) }) (record b { next = slice_set b.next (before - 1) (entry_of b.next id) })
-
--- no number in any bucket
-pub record IsBlank (b : Bucketed) : Type 0 where
-  pub heads : (i : ℕ) → slice_index_or b.heads i 0 ≡ 0
-  pub next : b.next ≡ []
-
--- where a walk along a bucket stands: no greater number has the set
-pub record IsAlong (live : Numbered) (limit : ℕ) (b : Bucketed) (c : List Literal) (bucket id before : ℕ) : Type 0 where
-  pub here : 0 < id → (id < limit) × IsIn live (length b.heads) bucket id
-  pub most : (n : ℕ) (d : List Literal) → clause_of live n ≡ Some d → SameSet d c → n ≤ id
-  pub head : before ≡ 0 → slice_index_or b.heads bucket 0 ≡ id
-  pub link : 0 < before → IsIn live (length b.heads) bucket before × (entry_of b.next before ≡ id)
+-- where a walk along a bucket from its end stands: what is the set stands in front
+pub record IsAlong (live : Numbered) (numbers : List ℕ) (c : List Literal) (place : ℕ) : Type 0 where
+  pub within : place ≤ length numbers
+  pub in_front : (n : ℕ) (d : List Literal) → clause_of live n ≡ Some d → SameSet d c → (j : ℕ) × (j < place) × (slice_index_or numbers j 0 ≡ n)

@@ -2,30 +2,50 @@
 ghost use Rattle.std.specs.Prelude.{◌≡◌, ◌≤◌, length, cond, true, false, Bool, OnOk};
 ghost use Rattle.std.specs.List.{list_all};
 ghost use Rattle.sr_base.specs.Literal.{Literal, has};
-ghost use Rattle.sr_load.specs.Buckets.{mix_of, hash_of, marked, HaveRoom, AreClear, AreMarked, is_marked_set};
+ghost use Rattle.sr_load.specs.Buckets.{mix_of, one_of, other_of, hash_of, marked, HaveRoom, AreClear, AreMarked, is_marked_set};
 
 use sr_base::{Lit, NoMemory};
 
-/// A number in which each bit of a code plays a part (after Steele, Lea and Flood 2014).
+/// A number in which each bit of another one plays a part, by two factors (after Steele, Lea and Flood 2014).
 #[inline]
 #[tactic(auto, unfolding(crate::specs::Buckets::mix_of))]
-fn mix(code: u32) -> u64
-    ensures { result ≡ mix_of code }
+fn mix(n: u64, first: u64, second: u64) -> u64
+    ensures { result ≡ mix_of first second n }
 {
-    let x = u64::from(code).wrapping_mul(0x9E37_79B9_7F4A_7C15);
-    let y = (x ^ (x >> 32)).wrapping_mul(0xD6E8_FEB8_6659_FD93);
+    let x = n.wrapping_mul(first);
+    let y = (x ^ (x >> 32)).wrapping_mul(second);
     y ^ (y >> 32)
 }
 
+#[inline]
+fn mix_one(n: u64) -> u64
+    ensures { result ≡ one_of n }
+{
+    mix(n, 0x9E37_79B9_7F4A_7C15, 0xD6E8_FEB8_6659_FD93)
+}
+
+#[inline]
+fn mix_other(n: u64) -> u64
+    ensures { result ≡ other_of n }
+{
+    mix(n, 0xBF58_476D_1CE4_E5B9, 0x94D0_49BB_1331_11EB)
+}
+
 /// The hash of a clause. The order of its literals plays no part.
+///
+/// It is of two sums over the literals. So literals for which one sum is the same make no clauses of one hash, and where two
+/// clauses have one hash by their sums, so do no others that have these in them, unless both sums are the same.
 pub fn hash(lits: &[Lit]) -> u64
     ensures { result ≡ hash_of lits.now }
 {
-    let mut sum = lits.len() as u64;
+    let mut one = lits.len() as u64;
+    let mut other = one;
     for l in lits {
-        sum = sum.wrapping_add(mix(l.code()));
+        let code = u64::from(l.code());
+        one = one.wrapping_add(mix_one(code));
+        other = other.wrapping_add(mix_other(code));
     }
-    sum
+    mix_other(mix_one(one).wrapping_add(other))
 }
 
 /// Makes room for marks on literals.

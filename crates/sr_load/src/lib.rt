@@ -2,6 +2,7 @@
 #![tactic(auto)]
 
 mod buckets;
+mod by_hash;
 mod copies;
 mod counting;
 mod deleting;
@@ -11,6 +12,7 @@ mod holding;
 mod levels;
 mod loaded;
 mod loader;
+mod numbers;
 mod progress;
 mod proof;
 mod records;
