@@ -7,10 +7,11 @@ use Rattle.std.proofs.lemmas.List.Elements.{All-push}
 use Rattle.std.proofs.lemmas.List.Sorted.{All-permutation, IsPermutation-append_right, length_permutation}
 use Rattle.sr_model.specs.Meeting.{Group}
 use Rattle.sr_trimming.specs.CoreFirst.{rising}
-use Rattle.sr_steps.specs.declared.table.GroupPlace.{GroupPlace}
+use Rattle.sr_steps.specs.declared.place.GroupPlace.{GroupPlace}
 use Rattle.sr_steps.specs.declared.table.StepPlace.{StepPlace}
 use Rattle.sr_steps.specs.Kept.{Kept}
-use Rattle.sr_steps.specs.Places.{group_of, kept_of, steps_in, IsWithin, groups_end, LiesAt, LieFrom, AreLaid}
+use Rattle.sr_steps.specs.Groups.{group_of, IsWithin, Begins}
+use Rattle.sr_steps.specs.Places.{kept_of, steps_in, groups_end, LiesAt, LieFrom, AreLaid}
 use Rattle.sr_steps.specs.Adding.{takes_groups, first_groups, with_groups, with_group, AreOfDistinct}
 use Rattle.sr_steps.proofs.Lying.{range-append, range-end, range-map, lie-split, lie-push, lie-more, all-kept-same, groups-more, within-more, view-push}
 use Rattle.sr_steps.proofs.Sorting.{sorted_is_rising}
@@ -19,7 +20,7 @@ use Rattle.sr_steps.proofs.Sorting.{sorted_is_rising}
 pub hints-laid : (hints more : List ℕ) (groups : List GroupPlace) (steps : List StepPlace) → AreLaid hints groups steps → AreLaid (hints ++ more) groups steps
 hints-laid hints more groups steps a =
     let le : length hints ≤ length (hints ++ more) = omega (arith, length-append hints more) in
-    record { within = within-more (length hints) (length (hints ++ more)) groups le a.within; apart = lie-more (length hints) (length (hints ++ more)) 0 steps (length groups) le a.apart }
+    record { within = within-more hints more groups a.within; apart = lie-more (length hints) (length (hints ++ more)) 0 steps (length groups) le a.apart }
 
 all-more : (hints more : List ℕ) (groups : List GroupPlace) (steps : List StepPlace) → AreLaid hints groups steps
     → map (kept_of (hints ++ more) (map (group_of (hints ++ more)) groups)) steps ≡ map (kept_of hints (map (group_of hints) groups)) steps
@@ -30,6 +31,16 @@ all-more hints more groups steps a =
 
 pub hints-view : (hints more : List ℕ) (groups : List GroupPlace) (steps : List StepPlace) → AreLaid hints groups steps → steps_in (hints ++ more) groups steps ≡ steps_in hints groups steps
 hints-view hints more groups steps a = ap reverse (all-more hints more groups steps a)
+
+-- the same of a list that begins with another
+longer : (hints all : List ℕ) → Begins hints all → hints ++ drop (length hints) all ≡ all
+longer hints all b = ap (λ zs. zs ++ drop (length hints) all) (sym b) ∙ take-append-drop (length hints) all
+
+pub begun-laid : (hints all : List ℕ) (groups : List GroupPlace) (steps : List StepPlace) → Begins hints all → AreLaid hints groups steps → AreLaid all groups steps
+begun-laid hints all groups steps b a = subst (λ hs. AreLaid hs groups steps) (longer hints all b) (hints-laid hints (drop (length hints) all) groups steps a)
+
+pub begun-view : (hints all : List ℕ) (groups : List GroupPlace) (steps : List StepPlace) → Begins hints all → AreLaid hints groups steps → steps_in all groups steps ≡ steps_in hints groups steps
+begun-view hints all groups steps b a = ap (λ hs. steps_in hs groups steps) (sym (longer hints all b)) ∙ hints-view hints (drop (length hints) all) groups steps a
 
 -- a step without a witness
 abbrev pub plain_place : ℕ → ℕ → ℕ → StepPlace
@@ -91,13 +102,13 @@ at-groups hints groups front s t a =
 
 -- one more group
 pub group-laid : (hints more : List ℕ) (groups : List GroupPlace) (front : List StepPlace) (s t : StepPlace) (g : GroupPlace) → s.by_witness ≡ true → t.by_witness ≡ true → t.start ≡ s.start
-    → t.end ≡ length (groups ++ g ∷ []) → g.start ≡ length hints → g.len ≡ length more → AreLaid hints groups (front ++ s ∷ []) → AreLaid (hints ++ more) (groups ++ g ∷ []) (front ++ t ∷ [])
-group-laid hints more groups front s t g w v st en gs ge a =
+    → t.end ≡ length (groups ++ g ∷ []) → IsWithin (hints ++ more) g → AreLaid hints groups (front ++ s ∷ []) → AreLaid (hints ++ more) (groups ++ g ∷ []) (front ++ t ∷ [])
+group-laid hints more groups front s t g w v st en wi a =
     let b = hints-laid hints more groups (front ++ s ∷ []) a in
     let r = at-groups (hints ++ more) groups front s w b in
     let le : s.start ≤ t.end = omega (arith, length-append groups (g ∷ []), r.1, r.2) in
     record {
-      within = All-push (IsWithin (length (hints ++ more))) groups g b.within (omega (arith, length-append hints more));
+      within = All-push (IsWithin (hints ++ more)) groups g b.within wi;
       apart = lie-push (length (hints ++ more)) 0 front t s.start (length (groups ++ g ∷ [])) r.0 (rw v (st, le)) (rw v en);
     }
 
@@ -114,7 +125,7 @@ range-push xs y a n m h e f =
     ∙ ap (λ zs. zs ++ y ∷ []) (sym (take_all (n - a) (drop a xs) (omega (arith, length-drop a xs))))
 
 -- steps before the last one see only what lies before its groups
-front-same : (hints more : List ℕ) (groups others : List GroupPlace) (front : List StepPlace) (start : ℕ) → LieFrom (length hints) 0 front start → All (IsWithin (length hints)) groups
+front-same : (hints more : List ℕ) (groups others : List GroupPlace) (front : List StepPlace) (start : ℕ) → LieFrom (length hints) 0 front start → All (IsWithin hints) groups
     → ((a b : ℕ) → a ≤ b → b ≤ start → slice_range others a b ≡ slice_range groups a b)
     → reverse (map (kept_of (hints ++ more) (map (group_of (hints ++ more)) others)) front) ≡ reverse (map (kept_of hints (map (group_of hints) groups)) front)
 front-same hints more groups others front start l w f = ap reverse (all-kept-same hints (hints ++ more) (map (group_of hints) groups) (map (group_of (hints ++ more)) others) 0 start front
@@ -122,25 +133,25 @@ front-same hints more groups others front start l w f = ap reverse (all-kept-sam
     (λ i j h g. range-map (group_of (hints ++ more)) others i j ∙ ap (map (group_of (hints ++ more))) (f i j h g) ∙ sym (range-map (group_of (hints ++ more)) groups i j) ∙ ap (λ gs. slice_range gs i j) (groups-more hints more groups w))
     l)
 
-pub group-view : (hints more : List ℕ) (groups : List GroupPlace) (front : List StepPlace) (s t : StepPlace) (g : GroupPlace) → s.by_witness ≡ true → t.by_witness ≡ true → t.id ≡ s.id → t.start ≡ s.start
-    → t.end ≡ length (groups ++ g ∷ []) → g.start ≡ length hints → g.len ≡ length more → AreLaid hints groups (front ++ s ∷ [])
-    → steps_in (hints ++ more) (groups ++ g ∷ []) (front ++ t ∷ []) ≡ with_group (g.id, more) (steps_in hints groups (front ++ s ∷ []))
-group-view hints more groups front s t g w v i st en gs ge a =
+pub group-view : (hints more : List ℕ) (groups : List GroupPlace) (front : List StepPlace) (s t : StepPlace) (g : GroupPlace) (x : Group) → s.by_witness ≡ true → t.by_witness ≡ true → t.id ≡ s.id → t.start ≡ s.start
+    → t.end ≡ length (groups ++ g ∷ []) → group_of (hints ++ more) g ≡ x → AreLaid hints groups (front ++ s ∷ [])
+    → steps_in (hints ++ more) (groups ++ g ∷ []) (front ++ t ∷ []) ≡ with_group x (steps_in hints groups (front ++ s ∷ []))
+group-view hints more groups front s t g x w v i st en is a =
     let r = at-groups hints groups front s w a in
     let whole : List ℕ = hints ++ more in
     let old : List Group = map (group_of hints) groups in
     let new : List Group = map (group_of whole) (groups ++ g ∷ []) in
-    let all : new ≡ old ++ (g.id, more) ∷ [] =
+    let all : new ≡ old ++ x ∷ [] =
     map_push (group_of whole) groups g ∙ ap (λ zs. zs ++ group_of whole g ∷ []) (groups-more hints more groups a.within)
-    ∙ ap (λ hs. let z : Group = (g.id, hs) in old ++ z ∷ []) (range-end hints more g.start (g.start + g.len) (sym gs) (omega arith)) in
+    ∙ ap (λ z. old ++ z ∷ []) is in
     let before : steps_in whole (groups ++ g ∷ []) front ≡ steps_in hints groups front =
     front-same hints more groups (groups ++ g ∷ []) front s.start r.0 a.within (λ i j h k. range-append groups (g ∷ []) i j h (omega (arith, r.1, r.2))) in
-    let range : slice_range new t.start t.end ≡ slice_range old s.start s.end ++ (g.id, more) ∷ [] =
-    ap (λ zs. slice_range zs t.start t.end) all ∙ ap (λ n. slice_range (old ++ (g.id, more) ∷ []) n t.end) st
-    ∙ range-push old (g.id, more) s.start s.end t.end r.1 (r.2 ∙ sym (length-map groups (group_of hints))) (omega (arith, length-append groups (g ∷ []), r.2)) in
+    let range : slice_range new t.start t.end ≡ slice_range old s.start s.end ++ x ∷ [] =
+    ap (λ zs. slice_range zs t.start t.end) all ∙ ap (λ n. slice_range (old ++ x ∷ []) n t.end) st
+    ∙ range-push old x s.start s.end t.end r.1 (r.2 ∙ sym (length-map groups (group_of hints))) (omega (arith, length-append groups (g ∷ []), r.2)) in
     view-push (kept_of whole new) front t ∙ ap (λ k. k ∷ steps_in whole (groups ++ g ∷ []) front) (kept-groups whole new t v) ∙ ap (λ ks. by_groups t.id (slice_range new t.start t.end) ∷ ks) before
     ∙ ap (λ n. by_groups n (slice_range new t.start t.end) ∷ steps_in hints groups front) i ∙ ap (λ zs. by_groups s.id zs ∷ steps_in hints groups front) range
-    ∙ ap (λ ks. with_group (g.id, more) ks) (ap (λ k. k ∷ steps_in hints groups front) (sym (kept-groups hints old s w)) ∙ sym (view-push (kept_of hints old) front s))
+    ∙ ap (λ ks. with_group x ks) (ap (λ k. k ∷ steps_in hints groups front) (sym (kept-groups hints old s w)) ∙ sym (view-push (kept_of hints old) front s))
 
 -- the groups of the last step are sorted
 pub sorted-laid : (hints : List ℕ) (groups others : List GroupPlace) (front : List StepPlace) (s : StepPlace) → s.by_witness ≡ true → take s.start others ≡ take s.start groups
@@ -150,7 +161,7 @@ sorted-laid hints groups others front s w before moved a =
     subst (λ zs. IsPermutation zs others) (take-append-drop s.start groups) (subst (λ zs. IsPermutation (take s.start groups ++ drop s.start groups) zs) (ap (λ zs. zs ++ drop s.start others) (sym before) ∙ take-append-drop s.start others)
     (IsPermutation-append_right (take s.start groups) (drop s.start groups) (drop s.start others) moved)) in
     record {
-      within = All-permutation (IsWithin (length hints)) groups others whole a.within;
+      within = All-permutation (IsWithin hints) groups others whole a.within;
       apart = subst (λ n. LieFrom (length hints) 0 (front ++ s ∷ []) n) (sym (length_permutation groups others whole)) a.apart;
     }
 
@@ -186,21 +197,30 @@ sorted-view hints groups others front s w before moved sorted distinct a =
     ∙ ap (λ ks. by_groups s.id (rising (map (group_of hints) (drop s.start groups))) ∷ ks) front-is ∙ ap (λ ks. with_groups (rising (first_groups ks)) ks) (sym view)
 
 -- the same of the whole list, at its last step
-pub group-grows : (hints more : List ℕ) (groups : List GroupPlace) (steps : List StepPlace) (s t : StepPlace) (g : GroupPlace) → takes_groups (steps_in hints groups steps) ≡ true
-    → s ≡ get_or steps (length steps - 1) s → t.id ≡ s.id → t.by_witness ≡ s.by_witness → t.start ≡ s.start → t.end ≡ length (groups ++ g ∷ []) → g.start ≡ length hints → g.len ≡ length more
+group-more : (hints more : List ℕ) (groups : List GroupPlace) (steps : List StepPlace) (s t : StepPlace) (g : GroupPlace) (x : Group) → takes_groups (steps_in hints groups steps) ≡ true
+    → s ≡ get_or steps (length steps - 1) s → t.id ≡ s.id → t.by_witness ≡ s.by_witness → t.start ≡ s.start → t.end ≡ length (groups ++ g ∷ []) → IsWithin (hints ++ more) g → group_of (hints ++ more) g ≡ x
     → AreLaid hints groups steps
     → AreLaid (hints ++ more) (groups ++ g ∷ []) (set steps (length steps - 1) t)
-    × (steps_in (hints ++ more) (groups ++ g ∷ []) (set steps (length steps - 1) t) ≡ with_group (g.id, more) (steps_in hints groups steps))
-group-grows hints more groups steps s t g takes last i v st en gs ge a =
+    × (steps_in (hints ++ more) (groups ++ g ∷ []) (set steps (length steps - 1) t) ≡ with_group x (steps_in hints groups steps))
+group-more hints more groups steps s t g x takes last i v st en wi is a =
     let some : 0 < length steps = some-steps hints groups steps takes in
     let front : List StepPlace = take (length steps - 1) steps in
-    let split : steps ≡ front ++ s ∷ [] = last-split steps s some ∙ ap (λ x. front ++ x ∷ []) (sym last) in
+    let split : steps ≡ front ++ s ∷ [] = last-split steps s some ∙ ap (λ z. front ++ z ∷ []) (sym last) in
     let new : set steps (length steps - 1) t ≡ front ++ t ∷ [] = last-set steps t some in
-    let w : s.by_witness ≡ true = taking hints groups front s (subst (λ x. takes_groups (steps_in hints groups x) ≡ true) split takes) in
+    let w : s.by_witness ≡ true = taking hints groups front s (subst (λ z. takes_groups (steps_in hints groups z) ≡ true) split takes) in
     let b : AreLaid hints groups (front ++ s ∷ []) = subst (AreLaid hints groups) split a in (
-      subst (AreLaid (hints ++ more) (groups ++ g ∷ [])) (sym new) (group-laid hints more groups front s t g w (v ∙ w) st en gs ge b),
-      ap (steps_in (hints ++ more) (groups ++ g ∷ [])) new ∙ group-view hints more groups front s t g w (v ∙ w) i st en gs ge b ∙ ap (λ x. with_group (g.id, more) (steps_in hints groups x)) (sym split),
+      subst (AreLaid (hints ++ more) (groups ++ g ∷ [])) (sym new) (group-laid hints more groups front s t g w (v ∙ w) st en wi b),
+      ap (steps_in (hints ++ more) (groups ++ g ∷ [])) new ∙ group-view hints more groups front s t g x w (v ∙ w) i st en is b ∙ ap (λ z. with_group x (steps_in hints groups z)) (sym split),
     )
+
+pub group-grows : (hints all : List ℕ) (groups : List GroupPlace) (steps : List StepPlace) (s t : StepPlace) (g : GroupPlace) (x : Group) → takes_groups (steps_in hints groups steps) ≡ true
+    → s ≡ get_or steps (length steps - 1) s → t.id ≡ s.id → t.by_witness ≡ s.by_witness → t.start ≡ s.start → t.end ≡ length (groups ++ g ∷ []) → Begins hints all → IsWithin all g → group_of all g ≡ x
+    → AreLaid hints groups steps
+    → AreLaid all (groups ++ g ∷ []) (set steps (length steps - 1) t) × (steps_in all (groups ++ g ∷ []) (set steps (length steps - 1) t) ≡ with_group x (steps_in hints groups steps))
+group-grows hints all groups steps s t g x takes last i v st en b wi is a =
+    let whole : hints ++ drop (length hints) all ≡ all = longer hints all b in
+    subst (λ hs. AreLaid hs (groups ++ g ∷ []) (set steps (length steps - 1) t) × (steps_in hs (groups ++ g ∷ []) (set steps (length steps - 1) t) ≡ with_group x (steps_in hints groups steps))) whole
+    (group-more hints (drop (length hints) all) groups steps s t g x takes last i v st en (subst (λ hs. IsWithin hs g) (sym whole) wi) (subst (λ hs. group_of hs g ≡ x) (sym whole) is) a)
 
 pub sorts : (hints : List ℕ) (groups others : List GroupPlace) (steps : List StepPlace) (s : StepPlace) → takes_groups (steps_in hints groups steps) ≡ true → s ≡ get_or steps (length steps - 1) s
     → take s.start others ≡ take s.start groups → IsPermutation (drop s.start groups) (drop s.start others) → IsNonDecreasingBy (λ g. g.id) (drop s.start others)

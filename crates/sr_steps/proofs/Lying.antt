@@ -1,14 +1,15 @@
 -- Where steps lie in flat lists.
-use Rattle.std.proofs.Common.{◌≡◌, ℕ, ◌+◌, ◌-◌, ◌≤◌, Bool, cond, List, [], ◌∷◌, ◌++◌, length, get_or, take, drop, map, reverse, refl, sym, ap, subst, ◌∙◌, arith, length-drop}
+use Rattle.std.proofs.Common.{◌≡◌, ℕ, ◌+◌, ◌-◌, ◌≤◌, Bool, true, false, cond, List, [], ◌∷◌, ◌++◌, length, get_or, take, drop, map, reverse, refl, sym, ap, subst, ◌∙◌, arith, length-append, length-drop}
 use Rattle.std.specs.Prelude.{slice_range, All}
-use Rattle.std.proofs.lemmas.List.{take_all, drop_at, drop-append-le, take-append-le, map-append, reverse-append, take-map, drop-map}
+use Rattle.std.proofs.lemmas.List.{take_all, drop_at, drop-append-le, take-append-le, get_or_append_left, map-append, reverse-append, take-map, drop-map}
 use Rattle.std.proofs.lemmas.List.Elements.{All-tail}
 use Rattle.sr_model.specs.Meeting.{Group}
 use Rattle.sr_model.proofs.Soundness.{by_test}
-use Rattle.sr_steps.specs.declared.table.GroupPlace.{GroupPlace}
+use Rattle.sr_steps.specs.declared.place.GroupPlace.{GroupPlace}
 use Rattle.sr_steps.specs.declared.table.StepPlace.{StepPlace}
 use Rattle.sr_steps.specs.Kept.{Kept}
-use Rattle.sr_steps.specs.Places.{group_of, kept_of, IsWithin, groups_end, LiesAt, LieFrom}
+use Rattle.sr_steps.specs.Groups.{start_of, has_few, group_of, IsWithin}
+use Rattle.sr_steps.specs.Places.{kept_of, groups_end, LiesAt, LieFrom}
 
 pub range-append : {X : Type 0} (xs ys : List X) (a b : ℕ) → a ≤ b → b ≤ length xs → slice_range (xs ++ ys) a b ≡ slice_range xs a b
 range-append xs ys a b h g =
@@ -68,15 +69,36 @@ all-kept-same hints more gs hs from end (s ∷ ss) f g l =
     let rest : map (kept_of more hs) ss ≡ map (kept_of hints gs) ss = all-kept-same hints more gs hs (groups_end from s) end ss f g l.1 in
     ap (λ x. x ∷ map (kept_of more hs) ss) one ∙ ap (λ xs. kept_of hints gs s ∷ xs) rest
 
-pub groups-more : (hints more : List ℕ) (gs : List GroupPlace) → All (IsWithin (length hints)) gs → map (group_of (hints ++ more)) gs ≡ map (group_of hints) gs
+-- a group stays where it is
+abbrev Stays : List ℕ → List ℕ → GroupPlace → Type 0
+Stays hints more g = IsWithin (hints ++ more) g × (group_of (hints ++ more) g ≡ group_of hints g)
+
+few-stay : (hints more : List ℕ) (g : GroupPlace) → has_few g ≡ true → IsWithin hints g → Stays hints more g
+few-stay hints more g e w =
+    let end : start_of g + g.count ≤ length hints = rw e at w in
+    let same : slice_range (hints ++ more) (start_of g) (start_of g + g.count) ≡ slice_range hints (start_of g) (start_of g + g.count) = range-append hints more (start_of g) (start_of g + g.count) (omega arith) end in
+    rw e (omega (arith, end, length-append hints more), ap (λ hs. let x : Group = (g.id, hs) in x) same)
+
+many-stay : (hints more : List ℕ) (g : GroupPlace) → has_few g ≡ false → IsWithin hints g → Stays hints more g
+many-stay hints more g e w =
+    let count : ℕ = get_or hints (start_of g) 0 in
+    let end : start_of g + 1 + count ≤ length hints = rw e at w in
+    let counted : get_or (hints ++ more) (start_of g) 0 ≡ count = get_or_append_left hints more 0 (start_of g) (omega arith) in
+    let same : slice_range (hints ++ more) (start_of g + 1) (start_of g + 1 + count) ≡ slice_range hints (start_of g + 1) (start_of g + 1 + count) =
+    range-append hints more (start_of g + 1) (start_of g + 1 + count) (omega arith) end in
+    rw (e, counted) (omega (arith, end, length-append hints more), ap (λ hs. let x : Group = (g.id, hs) in x) same)
+
+stays : (hints more : List ℕ) (g : GroupPlace) → IsWithin hints g → Stays hints more g
+stays hints more g w = by_test (has_few g) (λ e. few-stay hints more g e w) (λ e. many-stay hints more g e w)
+
+pub groups-more : (hints more : List ℕ) (gs : List GroupPlace) → All (IsWithin hints) gs → map (group_of (hints ++ more)) gs ≡ map (group_of hints) gs
 groups-more hints more [] a = refl
 groups-more hints more (g ∷ gs) a =
-    let here : IsWithin (length hints) g = a 0 g (omega arith) in
-    let one : group_of (hints ++ more) g ≡ group_of hints g = ap (λ hs. let x : Group = (g.id, hs) in x) (range-append hints more g.start (g.start + g.len) (omega arith) here) in
-    ap (λ x. x ∷ map (group_of (hints ++ more)) gs) one ∙ ap (λ xs. group_of hints g ∷ xs) (groups-more hints more gs (All-tail (IsWithin (length hints)) g gs a))
+    let one : group_of (hints ++ more) g ≡ group_of hints g = (stays hints more g (a 0 g (omega arith))).1 in
+    ap (λ x. x ∷ map (group_of (hints ++ more)) gs) one ∙ ap (λ xs. group_of hints g ∷ xs) (groups-more hints more gs (All-tail (IsWithin hints) g gs a))
 
-pub within-more : (h k : ℕ) (gs : List GroupPlace) → h ≤ k → All (IsWithin h) gs → All (IsWithin k) gs
-within-more h k gs le a i d m = let x : IsWithin h (get_or gs i d) = a i d m in omega (arith, x)
+pub within-more : (hints more : List ℕ) (gs : List GroupPlace) → All (IsWithin hints) gs → All (IsWithin (hints ++ more)) gs
+within-more hints more gs a i d m = (stays hints more (get_or gs i d) (a i d m)).0
 
 -- the last one comes first
 pub view-push : {X Y : Type 0} (f : X → Y) (xs : List X) (x : X) → reverse (map f (xs ++ x ∷ [])) ≡ f x ∷ reverse (map f xs)

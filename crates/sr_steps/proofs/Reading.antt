@@ -4,10 +4,11 @@ use Rattle.std.specs.Prelude.{slice_range}
 use Rattle.std.proofs.lemmas.List.{get_or-map, get_or-reverse, length-map, length-reverse}
 use Rattle.sr_model.specs.Meeting.{Group}
 use Rattle.sr_model.proofs.Soundness.{by_test}
-use Rattle.sr_steps.specs.declared.table.GroupPlace.{GroupPlace}
+use Rattle.sr_steps.specs.declared.place.GroupPlace.{GroupPlace}
 use Rattle.sr_steps.specs.declared.table.StepPlace.{StepPlace}
 use Rattle.sr_steps.specs.Kept.{Kept}
-use Rattle.sr_steps.specs.Places.{group_of, kept_of, steps_in, IsWithin, groups_end, LieFrom, AreLaid}
+use Rattle.sr_steps.specs.Groups.{group_of, IsWithin}
+use Rattle.sr_steps.specs.Places.{kept_of, steps_in, groups_end, LieFrom, AreLaid}
 use Rattle.sr_steps.specs.Adding.{bare}
 use Rattle.sr_steps.proofs.Lying.{lie-le}
 
@@ -66,7 +67,7 @@ no-hints hints gs s w = rw w refl
 pub record IsPlaced (hints : List ℕ) (groups : List GroupPlace) (steps : List StepPlace) (i j : ℕ) (s : StepPlace) : Type 0 where
   pub within : s.start + j < length groups
   pub group : (g : GroupPlace) → g ≡ get_or groups (s.start + j) g → get_or (get_or (steps_in hints groups steps) i (bare 0 false)).groups j (0, []) ≡ group_of hints g
-  pub lies : (g : GroupPlace) → g ≡ get_or groups (s.start + j) g → IsWithin (length hints) g
+  pub lies : (g : GroupPlace) → g ≡ get_or groups (s.start + j) g → IsWithin hints g
 
 pub group-placed : (hints : List ℕ) (groups : List GroupPlace) (steps : List StepPlace) (i j : ℕ) (s : StepPlace) → AreLaid hints groups steps → i < length steps → s ≡ get_or steps (length steps - 1 - i) s
     → j < length (get_or (steps_in hints groups steps) i (bare 0 false)).groups → IsPlaced hints groups steps i j s
@@ -85,6 +86,6 @@ group-placed hints groups steps i j s a h e m =
       within = omega arith;
       group = λ g f. ap (λ k. get_or k.groups j (0, [])) at ∙ ap (λ zs. get_or zs j (0, [])) is ∙ range-at gs s.start s.end j (0, []) less
           ∙ get_or-map (group_of hints) groups (s.start + j) g (0, []) (omega arith) ∙ ap (group_of hints) (sym f);
-      lies = λ g f. subst (IsWithin (length hints)) (sym f) (a.within (s.start + j) g (omega arith));
+      lies = λ g f. subst (IsWithin hints) (sym f) (a.within (s.start + j) g (omega arith));
     })
     (λ w. absurd (let none : length (kept_of hints gs s).groups ≡ 0 = ap length (no-groups hints gs s w) in omega arith))

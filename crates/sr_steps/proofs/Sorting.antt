@@ -12,8 +12,8 @@ use Rattle.sr_model.specs.Assignment.{holds_number}
 use Rattle.sr_model.specs.Meeting.{Group}
 use Rattle.sr_model.proofs.Soundness.{by_test}
 use Rattle.sr_trimming.specs.CoreFirst.{put_in, rising}
-use Rattle.sr_steps.specs.declared.table.GroupPlace.{GroupPlace}
-use Rattle.sr_steps.specs.Places.{group_of}
+use Rattle.sr_steps.specs.declared.place.GroupPlace.{GroupPlace}
+use Rattle.sr_steps.specs.Groups.{group_of}
 use Rattle.sr_steps.specs.Adding.{AreOfDistinct}
 
 contains-cons : {X : Type 0} (x : X) (xs : List X) (q : X) → Contains (x ∷ xs) q → (x ≡ q) ⊎ Contains xs q

@@ -1,3 +1,4 @@
 pub mod Kept
+pub mod Groups
 pub mod Places
 pub mod Adding

@@ -1,12 +1,10 @@
 -- Steps in flat lists: each step and each group has the places of its hints.
-use Rattle.std.specs.Prelude.{ℕ, ◌+◌, ◌≤◌, ◌≡◌, cond, List, [], ◌∷◌, length, map, reverse, slice_range, All}
+use Rattle.std.specs.Prelude.{ℕ, ◌≤◌, ◌≡◌, cond, List, [], ◌∷◌, length, map, reverse, slice_range, All}
 use Rattle.sr_model.specs.Meeting.{Group}
 use Rattle.sr_steps.specs.Kept.{Kept}
-use Rattle.sr_steps.specs.declared.table.GroupPlace.{GroupPlace}
+use Rattle.sr_steps.specs.Groups.{group_of, IsWithin}
+use Rattle.sr_steps.specs.declared.place.GroupPlace.{GroupPlace}
 use Rattle.sr_steps.specs.declared.table.StepPlace.{StepPlace}
-
-abbrev pub group_of : List ℕ → GroupPlace → Group
-group_of hints g = (g.id, slice_range hints g.start (g.start + g.len))
 
 -- of a step with a witness the places are those of its groups, of another those of its hints
 abbrev pub kept_of : List ℕ → List Group → StepPlace → Kept
@@ -21,10 +19,6 @@ kept_of hints groups s = record {
 abbrev pub steps_in : List ℕ → List GroupPlace → List StepPlace → List Kept
 steps_in hints groups steps = reverse (map (kept_of hints (map (group_of hints) groups)) steps)
 
--- the hints of a group lie among so many
-abbrev pub IsWithin : ℕ → GroupPlace → Type 0
-IsWithin hints g = g.start + g.len ≤ hints
-
 -- where the groups of a step end, if those before it end here
 abbrev pub groups_end : ℕ → StepPlace → ℕ
 groups_end from s = cond s.by_witness s.end from
@@ -38,5 +32,5 @@ LieFrom hints from [] end = from ≡ end
 LieFrom hints from (s ∷ ss) end = LiesAt hints from s × LieFrom hints (groups_end from s) ss end
 
 pub record AreLaid (hints : List ℕ) (groups : List GroupPlace) (steps : List StepPlace) : Type 0 where
-  pub within : All (IsWithin (length hints)) groups
+  pub within : All (IsWithin hints) groups
   pub apart : LieFrom (length hints) 0 steps (length groups)

@@ -5,18 +5,10 @@ ghost use Rattle.std.specs.List.Sorted.{IsPermutation, IsNonDecreasingBy};
 ghost use Rattle.sr_trimming.specs.CoreFirst.{rising};
 ghost use Rattle.sr_steps.specs.Adding.{bare, takes_groups, first_groups, with_group, with_groups, AreOfDistinct};
 
+use crate::place::{GroupPlace, hints_at, put_group};
 use sr_base::{ClauseId, NoMemory};
 use std::alloc::Global;
 use std::marker::Model;
-
-/// The place where a group's hints start, how many there are, and the number of its clause. There may be many more groups than
-/// steps, so a group takes 16 bytes.
-#[derive(Clone, Copy)]
-struct GroupPlace {
-    start: usize,
-    len: u32,
-    id: ClauseId,
-}
 
 /// The number of a step, and the places where its groups start and end, or those of its hints where it has no witness.
 #[derive(Clone, Copy)]
@@ -115,12 +107,10 @@ impl StepTable {
         ensures ok { OnOk result (self.new ≡ with_group (id, hints.now) self.old) }
         ensures err { OnErr result (self.new ≡ self.old) }
     {
-        let start = self.hints.len();
-        if self.hints.extend_from_slice(hints).is_err() {
+        let Ok(group) = put_group(&mut self.hints, id, hints) else {
             return Err(NoMemory);
-        }
-        let len = hints.len() as u32;
-        if self.groups.push(GroupPlace { start, len, id }).is_err() {
+        };
+        if self.groups.push(group).is_err() {
             return Err(NoMemory);
         }
         let last = self.steps.len() - 1;
@@ -203,8 +193,7 @@ impl StepTable {
         ensures { result.now ≡ (slice_index_or (slice_index_or self.now i (bare 0 false)).groups j (0, [])).1 }
     {
         let step = place_at(&self.steps, i);
-        let group = self.groups[step.start + j];
-        between(&self.hints, group.start, group.start + group.len as usize)
+        hints_at(&self.hints, self.groups[step.start + j])
     }
 }
 

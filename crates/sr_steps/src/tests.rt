@@ -22,3 +22,18 @@ fn the_step_added_last_comes_first(rt: HostRuntime) -> Result<(), Fail> {
     assert_eq!(rt; table.group_hints(1, 0), [3, 2].as_slice());
     Ok(())
 }
+
+#[test]
+fn a_group_may_have_many_hints(rt: HostRuntime) -> Result<(), Fail> {
+    let mut table = StepTable::new(rt.alloc());
+    let hints = [7; 65_536];
+    table.begin(13)?;
+    table.add_group(9, &hints[2..])?;
+    table.add_group(4, &hints[1..])?;
+    table.add_group(5, &hints)?;
+    table.sort_groups();
+    assert!(rt; table.group_hints(0, 0) == &hints[1..]);
+    assert!(rt; table.group_hints(0, 1) == &hints[..]);
+    assert!(rt; table.group_hints(0, 2) == &hints[2..]);
+    Ok(())
+}

@@ -1,7 +1,8 @@
 use Rattle.std.proofs.Common.{◌≡◌, ◌<◌, ◌≤◌, ◌-◌, false, length, get_or, map, sym, subst, ap, ◌∙◌}
 use Rattle.std.specs.Prelude.{slice_range}
 use Rattle.sr_steps.specs.Adding.{bare}
-use Rattle.sr_steps.specs.Places.{group_of, kept_of}
+use Rattle.sr_steps.specs.Groups.{group_of}
+use Rattle.sr_steps.specs.Places.{kept_of}
 use Rattle.sr_steps.proofs.Reading.{Lies, view-length, view-at, lies, hints-of}
 use Rattle.sr_steps.proofs.table.StepTable.prefix.Goals as goal
 
