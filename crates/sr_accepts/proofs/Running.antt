@@ -79,7 +79,7 @@ core_keeps None name text bytes old mid new some few w c =
     let is : new ≡ mid = c.0 in
     let place : mid.begun - 1 ≡ old.begun = omega (arith, w.only.begun) in
     subst (λ x. IsSent None old x text) (sym is) (record {
-      sent = subst (λ n. (mid.slot n).sent ≡ text) (sym place) w.sends.sent;
+      sent = subst (λ n. (mid.slot n).sent ≡ text) (sym place) w.sent;
       small = omega arith;
       formula = w.only.elsewhere 0 (λ e. absurd (omega arith));
     })
@@ -88,7 +88,7 @@ core_keeps (Some core) name text bytes old mid new some few w c =
     let place : new.begun - 2 ≡ old.begun = omega (arith, w.only.begun, v.only.begun) in
     let kept : new.slot old.begun ≡ mid.slot old.begun = v.only.elsewhere old.begun (λ e. absurd (omega (arith, w.only.begun))) in
     record {
-      sent = subst (λ n. (new.slot n).sent ≡ text) (sym place) (ap (λ (x : SlotState). x.sent) kept ∙ w.sends.sent);
+      sent = subst (λ n. (new.slot n).sent ≡ text) (sym place) (ap (λ (x : SlotState). x.sent) kept ∙ w.sent);
       small = omega arith;
       formula = v.only.elsewhere 0 (λ e. absurd (omega (arith, w.only.begun))) ∙ w.only.elsewhere 0 (λ e. absurd (omega arith));
     }

@@ -19,11 +19,13 @@ use Rattle.sr_trim.specs.Deciding.{Decision, stops, trims}
 use Rattle.sr_trim.specs.Reporting.{HasReport}
 use Rattle.sr_cli.specs.Demo.{DemoSaid, formula_text, proof_text, trim_of, HasNoFault, outputs, WritesEach, WritesDemo, FindsDemo, demo_report}
 use Rattle.sr_cli.specs.Words.{demos}
-use Rattle.sr_cli.specs.Run.{IsRefutedIn, IsSound, SaysSo, OnlyPrints, Shows, Reports, RunsDemo, is_unreported, HasRunCause, HasDemoCause, OnlyDemos, one_if_named, files_named, demo_names, counts_shown}
+use Rattle.sr_cli.specs.Run.{IsRefutedIn, IsSound, SaysSo, OnlyPrints, Shows, Reports, RunsDemo, is_unreported, HasRunCause, HasDemoCause, demo_names, counts_shown}
+use Rattle.sr_cli.specs.Touching.{WritesOneOf, OnlyDemos, one_if_named, files_named, demo_outputs}
 use Rattle.sr_cli.proofs.Refuted.{verified_is, cancel}
 use Rattle.sr_cli.proofs.Touched.{Begins, begins_none, begins_more}
+use Rattle.sr_cli.proofs.Named.{BeginsNamed, named_none}
 use Rattle.sr_cli.proofs.Trimmed.{is_good, decided_refutes, reported, unshown_counts}
-use Rattle.sr_cli.proofs.Outputs.{is_file, most_of, each_begins, each_cause, WriteCause}
+use Rattle.sr_cli.proofs.Outputs.{is_file, most_of, each_begins, each_named, each_cause, WriteCause}
 
 none : Counts
 none = record { clauses = 0; core = 0; lemmas = 0; steps = 0; hints = 0; passed = 0 }
@@ -84,6 +86,18 @@ demo_begins lim s old new o k (inr h) = at h.decision h.writes
     at : (d : Decision) → WritesDemo s d old new o → Begins (files_named s) old new
     at (stops x) w = begins_more 0 (files_named s) old new (omega arith) (begins_none old new w.0)
     at (trims f ds steps) w = outputs_begin s (option_map (λ name. lsr_text Text f.clauses steps) s.lsr) (option_map (λ name. core_text f steps) s.core) old new o w
+
+outputs_named : (s : DemoSaid) (lsr core : Option (List ℕ)) (old new : Outside) (o : Outcome) → WritesEach (outputs s lsr core) old new o → BeginsNamed (demo_outputs s) old new
+outputs_named s lsr core old new o w =
+    each_named (outputs s lsr core) (demo_outputs s) old new o (λ n e. inl e, (λ n e. inr (inl e), (λ n e. inr (inr (inl e)), (λ n e. inr (inr (inr (inl e))), tt)))) w
+
+pub demo_named : (lim : LimitValues) (s : DemoSaid) (old new : Outside) (o : Outcome) (k : Counts) → FindsDemo lim s old new o k → BeginsNamed (demo_outputs s) old new
+demo_named lim s old new o k (inl h) = named_none (demo_outputs s) old new h.1
+demo_named lim s old new o k (inr h) = at h.decision h.writes
+  where
+    at : (d : Decision) → WritesDemo s d old new o → BeginsNamed (demo_outputs s) old new
+    at (stops x) w = named_none (demo_outputs s) old new w.0
+    at (trims f ds steps) w = outputs_named s (option_map (λ name. lsr_text Text f.clauses steps) s.lsr) (option_map (λ name. core_text f steps) s.core) old new o w
 
 -- a fault is one of writing
 abbrev pub FoundDemoCause : Outside → Outside → Outcome → Type 0
@@ -226,9 +240,22 @@ module _ (lim : LimitValues) (s : DemoSaid) (old new : Outside) (answered : Outc
     | inr h ↦ h.1.elsewhere k ne
   ]
 
+  file_on : new.file ≡ r.mid.file
+  file_on = elim ends [
+    | inl h ↦ ap (λ (o : Outside). o.file) h.2
+    | inr h ↦ h.1.file
+  ]
+
+  named : BeginsNamed (demo_outputs s) old r.mid
+  named = demo_named lim s old r.mid r.found r.counts r.finds
+
   pub demo_only : OnlyDemos s old new
   demo_only = record {
     begun = omega (arith, begun_on, begins.few, zero);
+    slots = λ k lt.
+        subst (λ (x : SlotState). WritesOneOf (demo_outputs s) x) (sym (slot_on k (λ e. omega (arith, e, lt, begun_on, begins.few, zero, few))))
+        (named.slots k (omega (arith, zero)) (omega (arith, lt, begun_on)));
+    file = λ other apart. ap (λ (f : List ℕ → Option (List ℕ)). f other) file_on ∙ named.file other apart;
     unread = λ k le ne. slot_on k ne ∙ begins.above k (omega (arith, le, begun_on));
   }
 

@@ -1,5 +1,5 @@
 -- Words that are answered without a file, and words that aren't read.
-use Rattle.std.proofs.Common.{◌≡◌, inl, inr, sym, refl, subst, arith, None}
+use Rattle.std.proofs.Common.{◌≡◌, ◌∙◌, inl, inr, sym, refl, subst, arith, None}
 use Rattle.sr_base.specs.Limits.{LimitValues}
 use Rattle.sr_desk.specs.Outside.{Outside}
 use Rattle.sr_emit.specs.Flaws.{kind_of_flaw}
@@ -12,7 +12,8 @@ use Rattle.sr_emit.specs.declared.outcome.Outcome.{Outcome}
 use Rattle.sr_emit.specs.declared.outcome.Outcome.TheVariants as outcome
 use Rattle.sr_files.specs.Files.{HasReadCause}
 use Rattle.sr_cli.specs.Words.{Asked, only_reads, trims, demos, refused, helps, checks, AreRefused}
-use Rattle.sr_cli.specs.Run.{Runs, IsSound, SaysSo, OnlyPrints, Reports, GivesFiles, HasFilesCause, HasRunCause, IsCommandOf, no_names, OnlyTouches, StaysUnwritten}
+use Rattle.sr_cli.specs.Run.{Runs, IsSound, SaysSo, OnlyPrints, Reports, HasFilesCause, HasRunCause, IsCommandOf, no_names, StaysUnwritten}
+use Rattle.sr_cli.specs.Touching.{GivesFiles, OnlyTouches}
 use Rattle.sr_cli.proofs.Printing.{none, runs_out}
 use Rattle.sr_cli.proofs.Refuted.{runs_sound, runs_say_so}
 use Rattle.sr_cli.proofs.Trimmed.{trim_out, trim_says_so}
@@ -20,12 +21,12 @@ use Rattle.sr_cli.proofs.Demonstrated.{demo_out, demo_says_so}
 
 -- memory runs out before a file is begun
 pub words_out : (lim : LimitValues) (a : Asked) (o : Outside) → o.begun ≡ 0 → Runs lim a o o outcome.NoMemory
-words_out lim (only_reads a) o zero = runs_out lim a o
+words_out lim (only_reads a) o zero = runs_out lim a o zero
 words_out lim (trims s) o zero = trim_out lim s o zero
 words_out lim (demos s) o zero = demo_out lim s o
 
 pub words_out_say : (lim : LimitValues) (a : Asked) (o : Outside) → o.begun ≡ 0 → SaysSo lim a o o
-words_out_say lim (only_reads a) o zero = runs_say_so lim a o o outcome.NoMemory (runs_out lim a o)
+words_out_say lim (only_reads a) o zero = runs_say_so lim a o o outcome.NoMemory (runs_out lim a o zero)
 words_out_say lim (trims s) o zero = trim_says_so lim s o o outcome.NoMemory zero (trim_out lim s o zero)
 words_out_say lim (demos s) o zero = demo_says_so lim s o o outcome.NoMemory zero (demo_out lim s o)
 
@@ -35,6 +36,19 @@ words_out_give (only_reads (helps t)) o zero = tt
 words_out_give (only_reads (checks s)) o zero = (λ le. absurd (omega (arith, le, zero)), λ le. absurd (omega (arith, le, zero)))
 words_out_give (trims s) o zero = λ le. absurd (omega (arith, le, zero))
 words_out_give (demos s) o zero = tt
+
+pub words_out_touch : (a : Asked) (o : Outside) → o.begun ≡ 0 → OnlyTouches a o o
+words_out_touch (only_reads (refused kind t flaws)) o zero = record { begun = omega (arith, zero); named = tt; file = refl; unread = λ k le ne. refl; writes = λ k lt. refl }
+words_out_touch (only_reads (helps t)) o zero = record { begun = omega (arith, zero); named = tt; file = refl; unread = λ k le ne. refl; writes = λ k lt. refl }
+words_out_touch (only_reads (checks s)) o zero = record {
+  begun = omega (arith, zero);
+  named = (λ le. absurd (omega (arith, le, zero)), λ le. absurd (omega (arith, le, zero)));
+  file = refl;
+  unread = λ k le ne. refl;
+  writes = λ k lt. refl;
+}
+words_out_touch (trims s) o zero = record { begun = omega (arith, zero); slots = λ k lt. absurd (omega (arith, lt, zero)); file = λ other apart. refl; unread = λ k le ne. refl }
+words_out_touch (demos s) o zero = record { begun = omega (arith, zero); slots = λ k lt. absurd (omega (arith, lt, zero)); file = λ other apart. refl; unread = λ k le ne. refl }
 
 -- such words are answered so, without a file
 abbrev pub IsTold : Command → Outcome → Asked → Type 0
@@ -59,19 +73,23 @@ module _ (lim : LimitValues) (c : Command) (found answered : Outcome) (old new :
     found = found;
     counts = none;
     finds = inr (λ formula proof f p. (h.0, subst (λ n. n ≡ 0) (sym only.begun) zero));
+    named = tt;
     cause = subst (λ (x : Outcome). HasReadCause old new x) (sym h.0) tt;
     given = c;
     is_given = inr h.1;
     reports = r;
+    quiet = λ e. let bad : outcome.Usage kind ≡ outcome.NoMemory = sym h.0 ∙ e in absurd cc;
   }
   told_runs (only_reads (helps t)) h = record {
     found = found;
     counts = none;
     finds = inr (λ formula proof f p. (h.0, subst (λ n. n ≡ 0) (sym only.begun) zero));
+    named = tt;
     cause = subst (λ (x : Outcome). HasReadCause old new x) (sym h.0) tt;
     given = c;
     is_given = inr h.1;
     reports = r;
+    quiet = λ e. let bad : outcome.Helped t ≡ outcome.NoMemory = sym h.0 ∙ e in absurd cc;
   }
   told_runs (only_reads (checks s)) h = absurd h
   told_runs (trims s) h = absurd h
@@ -116,12 +134,14 @@ module _ (lim : LimitValues) (c : Command) (found answered : Outcome) (old new :
   pub told_touches : (a : Asked) → IsTold c found a → OnlyTouches a old new
   told_touches (only_reads (refused kind t flaws)) h = record {
     begun = omega (arith, only.begun, zero);
+    named = tt;
     file = only.file;
     unread = λ k le ne. only.elsewhere k ne;
     writes = λ k lt. rw (only.elsewhere k (λ e. omega (arith, e, lt))) refl;
   }
   told_touches (only_reads (helps t)) h = record {
     begun = omega (arith, only.begun, zero);
+    named = tt;
     file = only.file;
     unread = λ k le ne. only.elsewhere k ne;
     writes = λ k lt. rw (only.elsewhere k (λ e. omega (arith, e, lt))) refl;

@@ -78,7 +78,7 @@ reads_none o one = record {
   file = refl;
   others = λ k le. refl;
   before = λ k lt. refl;
-  only = λ k. record { writes = refl; sent = refl; written = refl; finished = refl; name = refl };
+  only = λ k. record { writes = refl; sent = refl; written = refl; finished = refl; writes_to = refl };
   later = λ k. omega arith;
 }
 

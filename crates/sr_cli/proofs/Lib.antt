@@ -6,6 +6,7 @@ pub mod Opening
 pub mod Refuted
 pub mod Printing
 pub mod Touched
+pub mod Named
 pub mod Trimmed
 pub mod Dispatch
 pub mod HolesRead

@@ -9,9 +9,10 @@ use Rattle.sr_emit.specs.declared.outcome.Outcome.TheVariants as outcome
 use Rattle.sr_files.specs.Written.{IsCutOff}
 use Rattle.sr_trim.specs.Outputs.{WritesOne}
 use Rattle.sr_cli.specs.Demo.{Output, WritesEach}
-use Rattle.sr_cli.specs.Run.{one_if_named}
+use Rattle.sr_cli.specs.Touching.{one_if_named}
 use Rattle.sr_cli.proofs.Refuted.{verified_is}
 use Rattle.sr_cli.proofs.Touched.{Begins, one_begins, begins_more, begins_then, begins_none}
+use Rattle.sr_cli.proofs.Named.{BeginsNamed, IsAmong, one_named, named_then, named_none}
 
 abbrev pub output : Which → Option (List ℕ) → Option (List ℕ) → Output
 output w name bytes = record { which = w; name = name; bytes = bytes }
@@ -80,3 +81,15 @@ each_cause (f ∷ fs) n first old new o files b (inl h) =
     each_cause fs (n + one_if_named f.name) first h.0 new o files.1
     (begins_then n (one_if_named f.name) first old h.0 b (named_begins f.which f.name f.bytes old h.0 outcome.Verified h.1.0)) h.1.1
 each_cause (f ∷ fs) n first old new o files b (inr h) = one_cause f.which f.name f.bytes n first old new o files.0 b h.0
+
+-- all names that are asked for are among these
+abbrev pub AreAmong : List Output → List (Option (List ℕ)) → Type 0
+AreAmong [] names = Unit {0}
+AreAmong (f ∷ fs) names = IsAmong f.name names × AreAmong fs names
+
+pub each_named : (fs : List Output) (names : List (Option (List ℕ))) (old new : Outside) (o : Outcome) → AreAmong fs names → WritesEach fs old new o → BeginsNamed names old new
+each_named [] names old new o among h = named_none names old new h.0
+each_named (f ∷ fs) names old new o among (inl h) =
+    named_then names (most_of fs) old h.0 new (one_named names f.which f.name f.bytes old h.0 outcome.Verified among.0 h.1.0) (each_begins fs h.0 new o h.1.1)
+    (each_named fs names h.0 new o among.1 h.1.1)
+each_named (f ∷ fs) names old new o among (inr h) = one_named names f.which f.name f.bytes old new o among.0 h.0

@@ -1,5 +1,5 @@
 -- What is verified is refuted: no assignment satisfies the formula.
-use Rattle.std.proofs.Common.{◌≡◌, ◌∙◌, inl, inr, ℕ, ◌+◌, length, arith, length-append, Bool, true, false, cond, List, [], ◌∷◌, ◌++◌, Option, Some, None, refl, sym, ap, subst}
+use Rattle.std.proofs.Common.{◌≡◌, ◌∙◌, inl, inr, ℕ, ◌+◌, ◌≤◌, length, arith, length-append, Bool, true, false, cond, List, [], ◌∷◌, ◌++◌, Option, Some, None, refl, sym, ap, subst}
 use Rattle.std.specs.Prelude.{nat_lt}
 use Rattle.std.proofs.lemmas.List.{append-nil}
 use Rattle.sr_base.specs.Literal.{Literal}
@@ -33,8 +33,9 @@ use Rattle.sr_cli.specs.Words.{ReadOnly, refused, helps, checks, only_reads}
 use Rattle.sr_cli.specs.Check.{grows_past, by_item, by_meeting, EndsAt, ByProof, ByClauses, ByFormula}
 use Rattle.sr_emit.specs.Report.{report}
 use Rattle.sr_emit.proofs.Verified.{says_so}
-use Rattle.sr_cli.specs.Run.{IsEvent, Finds, IsRefutedFile, IsSound, SaysSo, RunsReadOnly, Reports, names_asked, counts_asked}
+use Rattle.sr_cli.specs.Run.{IsEvent, Finds, IsRefutedRead, IsSound, SaysSo, RunsReadOnly, Reports, names_asked, counts_asked}
 use Rattle.sr_emit.specs.Report.{verified_line}
+use Rattle.sr_cli.specs.Touching.{ReadsNamed}
 use Rattle.sr_cli.proofs.Standing.{judged_append}
 
 -- an item at which a run is verified verifies the proof
@@ -75,6 +76,21 @@ clauses_refute lim form strict proof f k begun by = at (nat_lt lim.cells (cells_
     at false x true z = λ t. empty_is_false t f z
     at false x false z = let h = rw (x, z) at by in proof_refutes lim form strict f _ k h.0
 
+-- a verified run has begun the formula
+clauses_begun : (lim : LimitValues) (form : Form) (strict : Bool) (proof : Contents) (f : List (List Literal)) (k : Counts) (begun : ℕ) → ByClauses lim form strict proof f outcome.Verified k begun → 1 ≤ begun
+clauses_begun lim form strict proof f k begun by = at (nat_lt lim.cells (cells_of f)) refl (has_empty f) refl
+  where
+    at : (x : Bool) → nat_lt lim.cells (cells_of f) ≡ x → (y : Bool) → has_empty f ≡ y → 1 ≤ begun
+    at true x y z = let h = rw x at by in let bad = h.0 in absurd cc
+    at false x true z = let h = rw (x, z) at by in omega (arith, h.2)
+    at false x false z = let h = rw (x, z) at by in omega (arith, h.1)
+
+formula_begun : (lim : LimitValues) (form : Form) (strict : Bool) (proof : Contents) (r : Read Formula) (k : Counts) (begun : ℕ) → ByFormula lim form strict proof r outcome.Verified k begun → 1 ≤ begun
+formula_begun lim form strict proof (reads f rest) k begun h = clauses_begun lim form strict proof f.clauses k begun h
+formula_begun lim form strict proof (misspells kind place) k begun h = omega (arith, h.1)
+formula_begun lim form strict proof (passes kind) k begun h = omega (arith, h.1)
+formula_begun lim form strict proof fails k begun h = omega (arith, h.1)
+
 formula_refutes : (lim : LimitValues) (form : Form) (strict : Bool) (proof : Contents) (ts : Tokens) (k : Counts) (begun : ℕ) → ByFormula lim form strict proof (formula_at lim ts) outcome.Verified k begun
     → (f : Formula) × ((rest : Tokens) × SpellsFormula lim ts f rest × Unsat f.clauses)
 formula_refutes lim form strict proof ts k begun by = at (formula_at lim ts) refl by
@@ -94,16 +110,22 @@ agrees_some s = at s.ending refl
     at (Some x) e = (record { bytes = s.given ++ []; ending = x }, record { more = []; bytes = refl; ending = rw e (refl, refl) })
 
 event_refutes : (lim : LimitValues) (a : ReadOnly) (new : Outside) (k : Counts) → ((formula proof : Contents) → Agrees (new.slot 0) formula → Agrees (new.slot 1) proof → IsEvent lim a formula proof outcome.Verified k new.begun)
-    → IsRefutedFile lim new
-event_refutes lim (refused kind t flaws) new k by c h = let some = agrees_some (new.slot 1) in let bad = (by c some.0 h some.1).0 in absurd cc
-event_refutes lim (helps t) new k by c h = let some = agrees_some (new.slot 1) in let bad = (by c some.0 h some.1).0 in absurd cc
-event_refutes lim (checks s) new k by c h = let some = agrees_some (new.slot 1) in formula_refutes lim s.proof_form s.strict some.0 (spelled lim.bytes c) k new.begun (by c some.0 h some.1)
+    → ReadsNamed a new → IsRefutedRead lim a new
+event_refutes lim (refused kind t flaws) new k by named = let some = agrees_some (new.slot 0) in let more = agrees_some (new.slot 1) in let bad = (by some.0 more.0 some.1 more.1).0 in absurd cc
+event_refutes lim (helps t) new k by named = let some = agrees_some (new.slot 0) in let more = agrees_some (new.slot 1) in let bad = (by some.0 more.0 some.1 more.1).0 in absurd cc
+event_refutes lim (checks s) new k by named =
+    let some = agrees_some (new.slot 0) in
+    let more = agrees_some (new.slot 1) in
+    record {
+      named = named.0 (formula_begun lim s.proof_form s.strict more.0 (formula_at lim (spelled lim.bytes some.0)) k new.begun (by some.0 more.0 some.1 more.1));
+      refuted = λ c h. formula_refutes lim s.proof_form s.strict more.0 (spelled lim.bytes c) k new.begun (by c more.0 h more.1);
+    }
 
 -- what is found as verified
-pub found_refutes : (lim : LimitValues) (a : ReadOnly) (new : Outside) (found : Outcome) (k : Counts) → Finds lim a new found k → found ≡ outcome.Verified → IsRefutedFile lim new
-found_refutes lim a new found k (inl e) v = let bad : outcome.NoMemory ≡ outcome.Verified = sym e ∙ v in absurd cc
-found_refutes lim a new found k (inr by) v =
-    event_refutes lim a new k (λ formula proof f p. subst (λ (o : Outcome). IsEvent lim a formula proof o k new.begun) v (by formula proof f p))
+pub found_refutes : (lim : LimitValues) (a : ReadOnly) (new : Outside) (found : Outcome) (k : Counts) → Finds lim a new found k → ReadsNamed a new → found ≡ outcome.Verified → IsRefutedRead lim a new
+found_refutes lim a new found k (inl e) named v = let bad : outcome.NoMemory ≡ outcome.Verified = sym e ∙ v in absurd cc
+found_refutes lim a new found k (inr by) named v =
+    event_refutes lim a new k (λ formula proof f p. subst (λ (o : Outcome). IsEvent lim a formula proof o k new.begun) v (by formula proof f p)) named
 
 pub verified_is : (o : Outcome) → is_verified o ≡ true → o ≡ outcome.Verified
 verified_is outcome.Verified v = refl
@@ -125,9 +147,9 @@ runs_sound lim a old new answered r v = at r.reports
     is : answered ≡ outcome.Verified
     is = verified_is answered v
 
-    at : Reports (report r.given (names_asked a) (counts_asked a r.counts) r.found) old new r.found answered → IsRefutedFile lim new
+    at : Reports (report r.given (names_asked a) (counts_asked a r.counts) r.found) old new r.found answered → IsRefutedRead lim a new
     at (inl h) = let bad : outcome.NoMemory ≡ outcome.Verified = sym h.0 ∙ is in absurd cc
-    at (inr (inl h)) = found_refutes lim a new r.found r.counts r.finds (sym h.0 ∙ is)
+    at (inr (inl h)) = found_refutes lim a new r.found r.counts r.finds r.named (sym h.0 ∙ is)
     at (inr (inr h)) = let bad : outcome.SinkFault which.Report ≡ outcome.Verified = sym h.0 ∙ is in absurd cc
 
 pub cancel : (xs ys zs : List ℕ) → xs ++ ys ≡ xs ++ zs → ys ≡ zs
@@ -138,10 +160,10 @@ cancel (x ∷ xs) ys zs e = cancel xs ys zs (cc)
 pub runs_say_so : (lim : LimitValues) (a : ReadOnly) (old new : Outside) (answered : Outcome) → RunsReadOnly lim a old new answered → SaysSo lim (only_reads a) old new
 runs_say_so lim a old new answered r front sent = at r.reports
   where
-    told : (rest : List ℕ) → report r.given (names_asked a) (counts_asked a r.counts) r.found ≡ (front ++ verified_line) ++ rest → IsRefutedFile lim new
-    told rest e = found_refutes lim a new r.found r.counts r.finds (says_so r.given (names_asked a) (counts_asked a r.counts) r.found front rest e)
+    told : (rest : List ℕ) → report r.given (names_asked a) (counts_asked a r.counts) r.found ≡ (front ++ verified_line) ++ rest → IsRefutedRead lim a new
+    told rest e = found_refutes lim a new r.found r.counts r.finds r.named (says_so r.given (names_asked a) (counts_asked a r.counts) r.found front rest e)
 
-    at : Reports (report r.given (names_asked a) (counts_asked a r.counts) r.found) old new r.found answered → IsRefutedFile lim new
+    at : Reports (report r.given (names_asked a) (counts_asked a r.counts) r.found) old new r.found answered → IsRefutedRead lim a new
     at (inl h) =
         let same : (old.slot 8).sent ≡ (old.slot 8).sent ++ (front ++ verified_line) = sym (ap (λ (s : SlotState). s.sent) h.1) ∙ sent in
         let size : length (old.slot 8).sent ≡ length (old.slot 8).sent + (length front + 17) = ap length same ∙ simp length-append in

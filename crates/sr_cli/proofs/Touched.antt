@@ -80,7 +80,7 @@ finds_begin lim s old new o k zero (inl h) = elim h.reads [
 ]
 finds_begin lim s old new o k zero (inr h) = begins_then 2 2 old h.mid new (reads_begin old h.mid zero h.reads) (writes_begin s h.decision h.mid new o h.writes)
 
-some_read : (old mid : Outside) → ReadsFiles old mid → 0 < mid.begun
+pub some_read : (old mid : Outside) → ReadsFiles old mid → 0 < mid.begun
 some_read old mid (inl r) = omega (arith, r.begun)
 some_read old mid (inr r) = omega (arith, r.begun)
 

@@ -4,8 +4,7 @@ use Rattle.std.specs.Prelude.{nat_lt, filter, ◌&&◌}
 use Rattle.std.proofs.lemmas.List.{append-nil}
 use Rattle.sr_base.specs.Literal.{Literal}
 use Rattle.sr_base.specs.Limits.{LimitValues}
-use Rattle.sr_base.specs.Contents as contents
-use Rattle.sr_base.specs.Contents.{Contents, whole}
+use Rattle.sr_base.specs.Contents.{Contents}
 use Rattle.sr_base.specs.declared.names.Which.{Which}
 use Rattle.sr_base.specs.declared.names.Which.TheVariants as which
 use Rattle.sr_base.specs.declared.names.LimitKind.{LimitKind}
@@ -22,7 +21,7 @@ use Rattle.sr_model.specs.Formulas.{SpellsFormula}
 use Rattle.sr_model.specs.Dsr.{Line, MaybeLine, line_in, line_tokens}
 use Rattle.sr_model.proofs.Soundness.{by_test}
 use Rattle.sr_model.proofs.FormulasSpelled.{read_is_spelled}
-use Rattle.sr_desk.specs.Outside.{Outside, SlotState, Agrees, Rose, source}
+use Rattle.sr_desk.specs.Outside.{Outside, SlotState, Agrees, Rose}
 use Rattle.sr_trimming.specs.Citing.{is_cited, core}
 use Rattle.sr_trimming.specs.Loading.{Done}
 use Rattle.sr_files.specs.Files.{GivesFile, HasReadCause}
@@ -40,8 +39,11 @@ use Rattle.sr_trim.specs.Finding.{Finds, Trims, HasDecidedCause}
 use Rattle.sr_trim.specs.Reporting.{HasReport}
 use Rattle.sr_trim.specs.Reporting as reporting
 use Rattle.sr_cli.specs.Words as words
-use Rattle.sr_cli.specs.Run.{IsRefutedFile, IsSound, SaysSo, OnlyPrints, Shows, Reports, ReportsTrim, RunsTrim, is_unreported, HasFilesCause, HasRunCause, OnlyTrims, trim_names, counts_shown}
+use Rattle.sr_cli.specs.Run.{IsRefutedFile, IsSound, SaysSo, OnlyPrints, Shows, Reports, ReportsTrim, RunsTrim, is_unreported, HasFilesCause, HasRunCause, trim_names, counts_shown}
 use Rattle.sr_cli.proofs.Refuted.{verified_is, agrees_some, cancel}
+use Rattle.sr_cli.specs.Touching.{OnlyTrims}
+use Rattle.sr_trim.proofs.Opened.{gives_still}
+use Rattle.sr_cli.proofs.Named.{finds_slots, finds_file, slot_still}
 use Rattle.sr_cli.proofs.Touched.{Begins, finds_begin, formula_stays, two_cause, reads_begin, SinkCause, FoundCause}
 
 -- where no assignment satisfies the clauses that are cited, none satisfies the formula
@@ -117,16 +119,19 @@ good_of s (stops x) old new o h v = ap is_verified (sym h.1 ∙ v)
 good_of s (trims f ds steps) old new o h v = refl
 
 -- what is found as verified
-pub finds_refutes : (lim : LimitValues) (s : TrimSaid) (old new : Outside) (o : Outcome) (k : Counts) → Finds lim s old new o k → o ≡ outcome.Verified → IsRefutedFile lim new
+pub finds_refutes : (lim : LimitValues) (s : TrimSaid) (old new : Outside) (o : Outcome) (k : Counts) → Finds lim s old new o k → o ≡ outcome.Verified → IsRefutedFile lim s.formula new
 finds_refutes lim s old new o k (inl h) v = let bad : outcome.NoMemory ≡ outcome.Verified = sym h.is ∙ v in absurd cc
-finds_refutes lim s old new o k (inr h) v = λ c a.
-    let some = agrees_some (h.mid.slot 1) in
-    let here : Agrees (h.mid.slot 0) c = subst (λ (x : SlotState). Agrees x c) (formula_stays lim s old new o k h) a in
-    decided_refutes lim s c some.0 h.decision h.mid.begun (h.decided c some.0 here some.1) (good_of s h.decision h.mid new o h.writes v)
+finds_refutes lim s old new o k (inr h) v = record {
+  named = ap (λ (x : SlotState). x.reads_from) (formula_stays lim s old new o k h) ∙ h.formula.named;
+  refuted = λ c a.
+      let some = agrees_some (h.mid.slot 1) in
+      let here : Agrees (h.mid.slot 0) c = subst (λ (x : SlotState). Agrees x c) (formula_stays lim s old new o k h) a in
+      decided_refutes lim s c some.0 h.decision h.mid.begun (h.decided c some.0 here some.1) (good_of s h.decision h.mid new o h.writes v);
+}
 
 -- printing leaves the formula's slot
-refuted_on : (lim : LimitValues) (mid new : Outside) → new.slot 0 ≡ mid.slot 0 → IsRefutedFile lim mid → IsRefutedFile lim new
-refuted_on lim mid new e h c a = h c (subst (λ (x : SlotState). Agrees x c) e a)
+refuted_on : (lim : LimitValues) (name : List ℕ) (mid new : Outside) → new.slot 0 ≡ mid.slot 0 → IsRefutedFile lim name mid → IsRefutedFile lim name new
+refuted_on lim name mid new e h = record { named = ap (λ (x : SlotState). x.reads_from) e ∙ h.named; refuted = λ c a. h.refuted c (subst (λ (x : SlotState). Agrees x c) e a) }
 
 -- a run that isn't reported, or is
 pub reported : (bytes : List ℕ) (mid new : Outside) (found answered : Outcome) → ReportsTrim bytes mid new found answered
@@ -150,8 +155,8 @@ module _ (lim : LimitValues) (s : TrimSaid) (old new : Outside) (answered : Outc
     | inr h ↦ h.1.elsewhere 0 (λ e. cc)
   ]
 
-  refutes : r.found ≡ outcome.Verified → IsRefutedFile lim new
-  refutes v = refuted_on lim r.mid new formula_on (finds_refutes lim s old r.mid r.found r.counts r.finds v)
+  refutes : r.found ≡ outcome.Verified → IsRefutedFile lim s.formula new
+  refutes v = refuted_on lim s.formula r.mid new formula_on (finds_refutes lim s old r.mid r.found r.counts r.finds v)
 
   pub trim_sound : IsSound lim (words.trims s) new answered
   trim_sound v = at (reported _ r.mid new r.found answered r.reports)
@@ -160,7 +165,7 @@ module _ (lim : LimitValues) (s : TrimSaid) (old new : Outside) (answered : Outc
       is = verified_is answered v
 
       at : ((is_unreported r.found ≡ true) × (answered ≡ r.found) × (new ≡ r.mid))
-          ⊎ ((is_unreported r.found ≡ false) × OnlyPrints r.mid new × Reports (report command.Trim (trim_names s) (counts_shown s.stats r.found r.counts) r.found) r.mid new r.found answered) → IsRefutedFile lim new
+          ⊎ ((is_unreported r.found ≡ false) × OnlyPrints r.mid new × Reports (report command.Trim (trim_names s) (counts_shown s.stats r.found r.counts) r.found) r.mid new r.found answered) → IsRefutedFile lim s.formula new
       at (inl h) = refutes (sym h.1 ∙ is)
       at (inr (_, _, inl h)) = let bad : outcome.NoMemory ≡ outcome.Verified = sym h.0 ∙ is in absurd cc
       at (inr (_, _, inr (inl h))) = refutes (sym h.0 ∙ is)
@@ -175,20 +180,20 @@ module _ (lim : LimitValues) (s : TrimSaid) (old new : Outside) (answered : Outc
       bytes : List ℕ
       bytes = report command.Trim (trim_names s) (counts_shown s.stats r.found r.counts) r.found
 
-      told : (rest : List ℕ) → report command.Trim (trim_names s) (counts_shown s.stats r.found r.counts) r.found ≡ (front ++ verified_line) ++ rest → IsRefutedFile lim new
+      told : (rest : List ℕ) → report command.Trim (trim_names s) (counts_shown s.stats r.found r.counts) r.found ≡ (front ++ verified_line) ++ rest → IsRefutedFile lim s.formula new
       told rest e = refutes (says_so command.Trim (trim_names s) (counts_shown s.stats r.found r.counts) r.found front rest e)
 
       sent_mid : (new.slot 8).sent ≡ (r.mid.slot 8).sent ++ (front ++ verified_line)
       sent_mid = sent ∙ ap (λ (x : SlotState). x.sent ++ (front ++ verified_line)) (sym output_same)
 
-      unsent : new.slot 8 ≡ r.mid.slot 8 → IsRefutedFile lim new
+      unsent : new.slot 8 ≡ r.mid.slot 8 → IsRefutedFile lim s.formula new
       unsent e =
           let same : (r.mid.slot 8).sent ≡ (r.mid.slot 8).sent ++ (front ++ verified_line) = sym (ap (λ (x : SlotState). x.sent) e) ∙ sent_mid in
           let size : length (r.mid.slot 8).sent ≡ length (r.mid.slot 8).sent + (length front + 17) = ap length same ∙ simp length-append in
           absurd (omega arith)
 
       at : ((is_unreported r.found ≡ true) × (answered ≡ r.found) × (new ≡ r.mid))
-          ⊎ ((is_unreported r.found ≡ false) × OnlyPrints r.mid new × Reports (report command.Trim (trim_names s) (counts_shown s.stats r.found r.counts) r.found) r.mid new r.found answered) → IsRefutedFile lim new
+          ⊎ ((is_unreported r.found ≡ false) × OnlyPrints r.mid new × Reports (report command.Trim (trim_names s) (counts_shown s.stats r.found r.counts) r.found) r.mid new r.found answered) → IsRefutedFile lim s.formula new
       at (inl h) = unsent (ap (λ (o : Outside). o.slot 8) h.2)
       at (inr (_, _, inl h)) = unsent h.1
       at (inr (_, _, inr (inl h))) = told [] (cancel (r.mid.slot 8).sent _ _ (sym h.1.sends.sent ∙ sent_mid) ∙ sym (append-nil (front ++ verified_line)))
@@ -209,19 +214,24 @@ module _ (lim : LimitValues) (s : TrimSaid) (old new : Outside) (answered : Outc
     | inr h ↦ h.1.elsewhere k ne
   ]
 
+  file_on : new.file ≡ r.mid.file
+  file_on = elim (reported _ r.mid new r.found answered r.reports) [
+    | inl h ↦ ap (λ (o : Outside). o.file) h.2
+    | inr h ↦ h.1.file
+  ]
+
   pub trim_only : OnlyTrims s old new
   trim_only = record {
     begun = omega (arith, begun_on, begins.few, zero);
+    slots = λ k lt.
+        slot_still s old r.mid new k (slot_on k (λ e. omega (arith, e, lt, begun_on, begins.few, zero)))
+        (finds_slots lim s old r.mid r.found r.counts zero r.finds k (omega (arith, lt, begun_on)));
+    file = λ other apart. ap (λ (f : List ℕ → Option (List ℕ)). f other) file_on ∙ finds_file lim s old r.mid r.found r.counts r.finds other apart;
     unread = λ k le ne. slot_on k ne ∙ begins.above k (omega (arith, le, begun_on));
   }
 
   gives_on : (o : Outside) → r.mid.slot 0 ≡ o.slot 0 → GivesFile 0 s.formula old o → GivesFile 0 s.formula old new
-  gives_on o e h =
-      let same : new.slot 0 ≡ o.slot 0 = formula_on ∙ e in
-      record {
-        known = λ bytes ne k. subst (λ (x : SlotState). source x ≡ Some bytes) (sym same) (h.known bytes (subst (λ (x : SlotState). x.ending ≢ Some contents.failed) same ne) k);
-        agrees = λ bytes ne k. subst (λ (x : SlotState). Agrees x (whole bytes)) (sym same) (h.agrees bytes (subst (λ (x : SlotState). x.ending ≢ Some contents.failed) same ne) (subst (λ (x : SlotState). source x ≡ Some bytes) same k));
-      }
+  gives_on o e h = gives_still 0 s.formula old old o new refl (formula_on ∙ e) h
 
   pub trim_gives : 1 ≤ new.begun → GivesFile 0 s.formula old new
   trim_gives le = at r.finds

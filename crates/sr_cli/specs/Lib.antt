@@ -3,4 +3,5 @@ pub mod Demo
 pub mod Words
 pub mod Check
 pub mod Runs
+pub mod Touching
 pub mod Run

@@ -1,5 +1,5 @@
 -- What a run does and answers, from its words to what it leaves.
-use Rattle.std.specs.Prelude.{cond, ◌≡◌, ◌≢◌, ◌⊎◌, ℕ, ◌+◌, ◌-◌, ◌≤◌, ◌<◌, ◌&&◌, Bool, true, false, List, ◌++◌, Option, Some, None, if◌then◌else◌}
+use Rattle.std.specs.Prelude.{cond, ◌≡◌, ◌⊎◌, ℕ, ◌-◌, ◌≤◌, ◌<◌, ◌&&◌, Bool, true, false, List, ◌++◌, Option, Some, None, if◌then◌else◌}
 use Rattle.sr_base.specs.Limits.{LimitValues}
 use Rattle.sr_base.specs.Contents.{Contents, whole}
 use Rattle.sr_base.specs.declared.names.Which.TheVariants as which
@@ -23,8 +23,9 @@ use Rattle.sr_trim.specs.Said.{TrimSaid}
 use Rattle.sr_trim.specs.Finding as trim
 use Rattle.sr_cli.specs.Demo.{DemoSaid, formula_text, FindsDemo}
 use Rattle.sr_cli.specs.Words.{ReadOnly, refused, helps, checks, Asked, only_reads, trims, demos, IsOneOf}
-use Rattle.sr_files.specs.Files.{GivesFile, HasReadCause}
+use Rattle.sr_files.specs.Files.{HasReadCause}
 use Rattle.sr_cli.specs.Check.{IsFirst}
+use Rattle.sr_cli.specs.Touching.{ReadsNamed}
 
 -- standard output has the slot 8; nothing else changed
 pub record OnlyPrints (old new : Outside) : Type 0 where
@@ -90,16 +91,18 @@ trim_names s = record { formula = Some s.formula; proof = Some s.proof; lsr = s.
 abbrev pub demo_names : DemoSaid → Names
 demo_names s = record { formula = None; proof = None; lsr = s.lsr; core = s.core }
 
--- something was found, and reported; where that is a failed read, its count rose. Out of memory has an empty report, whatever
--- the command
+-- something was found of the files that were named, and reported; where that is a failed read, its count rose. Where memory ran out
+-- nothing is printed
 pub record RunsReadOnly (lim : LimitValues) (a : ReadOnly) (old new : Outside) (answered : Outcome) : Type 0 where
   pub found : Outcome
   pub counts : Counts
   pub finds : Finds lim a new found counts
+  pub named : ReadsNamed a new
   pub cause : HasReadCause old new found
   pub given : Command
   pub is_given : (found ≡ outcome.NoMemory) ⊎ IsCommandOf a given
   pub reports : Reports (report given (names_asked a) (counts_asked a counts) found) old new found answered
+  pub quiet : found ≡ outcome.NoMemory → (answered ≡ outcome.NoMemory) × (new.slot 8 ≡ old.slot 8)
 
 -- a fault of a file that is written, and out of memory, aren't reported
 abbrev pub is_unreported : Outcome → Bool
@@ -142,14 +145,21 @@ Runs lim (demos s) old new answered = RunsDemo lim s old new answered
 abbrev pub IsRefutedIn : LimitValues → Contents → Type 0
 IsRefutedIn lim c = (f : Formula) × ((rest : Tokens) × SpellsFormula lim (spelled lim.bytes c) f rest × Unsat f.clauses)
 
--- what the formula's slot gave does, whatever its file has beyond
-abbrev pub IsRefutedFile : LimitValues → Outside → Type 0
-IsRefutedFile lim new = (c : Contents) → Agrees (new.slot 0) c → IsRefutedIn lim c
+-- the formula's slot reads the file of this name, and what it gave does, whatever the file has beyond
+pub record IsRefutedFile (lim : LimitValues) (name : List ℕ) (new : Outside) : Type 0 where
+  pub named : (new.slot 0).reads_from ≡ Some name
+  pub refuted : (c : Contents) → Agrees (new.slot 0) c → IsRefutedIn lim c
 
--- the formula of the run is refuted: the one whose file is read, or the one that is made
+-- words that are refused or ask for help have no formula
+abbrev pub IsRefutedRead : LimitValues → ReadOnly → Outside → Type 0
+IsRefutedRead lim (refused kind t flaws) new = ⊥
+IsRefutedRead lim (helps t) new = ⊥
+IsRefutedRead lim (checks s) new = IsRefutedFile lim s.formula new
+
+-- the formula of the run is refuted: that of the file that was named for it, or the one that is made
 abbrev pub IsRefuted : LimitValues → Asked → Outside → Type 0
-IsRefuted lim (only_reads a) new = IsRefutedFile lim new
-IsRefuted lim (trims s) new = IsRefutedFile lim new
+IsRefuted lim (only_reads a) new = IsRefutedRead lim a new
+IsRefuted lim (trims s) new = IsRefutedFile lim s.formula new
 IsRefuted lim (demos s) new = IsRefutedIn lim (whole (formula_text s.holes))
 
 -- what is answered as verified is refuted
@@ -190,50 +200,3 @@ abbrev pub StaysUnwritten : Asked → Outside → Outside → Outcome → Type 0
 StaysUnwritten (only_reads a) old new o = o ≡ outcome.NoMemory → WritesNoFile old new
 StaysUnwritten (trims s) old new o = o ≡ outcome.NoMemory → WritesNoFile old new
 StaysUnwritten (demos s) old new o = o ≡ outcome.NoMemory → WritesNoFile old new × (new.begun ≡ old.begun)
-
--- known files are read as they are
-abbrev pub GivesReadOnly : ReadOnly → Outside → Outside → Type 0
-GivesReadOnly (refused kind t flaws) old new = Unit {0}
-GivesReadOnly (helps t) old new = Unit {0}
-GivesReadOnly (checks s) old new = (1 ≤ new.begun → GivesFile 0 s.formula old new) × (2 ≤ new.begun → GivesFile 1 s.proof old new)
-
--- how many files are begun at most
-abbrev pub most_begun : ReadOnly → ℕ
-most_begun (refused kind t flaws) = 0
-most_begun (helps t) = 0
-most_begun (checks s) = 2
-
--- so many files at most were begun, all for reading; the other slots but standard output and all files are as they were
-pub record OnlyReadsFiles (a : ReadOnly) (old new : Outside) : Type 0 where
-  pub begun : new.begun ≤ most_begun a
-  pub file : new.file ≡ old.file
-  pub unread : (k : ℕ) → new.begun ≤ k → k ≢ 8 → new.slot k ≡ old.slot k
-  pub writes : (k : ℕ) → k < 8 → (new.slot k).writes ≡ (old.slot k).writes
-
--- the files of a run that writes some: the formula and the proof, where they were read
-abbrev pub GivesFiles : Asked → Outside → Outside → Type 0
-GivesFiles (only_reads a) old new = GivesReadOnly a old new
-GivesFiles (trims s) old new = 1 ≤ new.begun → GivesFile 0 s.formula old new
-GivesFiles (demos s) old new = Unit {0}
-
--- no file is written but those that are named for it, as far as the names of slots are known
-pub record OnlyTrims (s : TrimSaid) (old new : Outside) : Type 0 where
-  pub begun : new.begun ≤ 4
-  pub unread : (k : ℕ) → new.begun ≤ k → k ≢ 8 → new.slot k ≡ old.slot k
-
--- no more files are begun than are named
-abbrev pub one_if_named : Option (List ℕ) → ℕ
-one_if_named None = 0
-one_if_named (Some name) = 1
-
-abbrev pub files_named : DemoSaid → ℕ
-files_named s = one_if_named s.formula + one_if_named s.proof + one_if_named s.lsr + one_if_named s.core
-
-pub record OnlyDemos (s : DemoSaid) (old new : Outside) : Type 0 where
-  pub begun : new.begun ≤ files_named s
-  pub unread : (k : ℕ) → new.begun ≤ k → k ≢ 8 → new.slot k ≡ old.slot k
-
-abbrev pub OnlyTouches : Asked → Outside → Outside → Type 0
-OnlyTouches (only_reads a) old new = OnlyReadsFiles a old new
-OnlyTouches (trims s) old new = OnlyTrims s old new
-OnlyTouches (demos s) old new = OnlyDemos s old new

@@ -5,7 +5,8 @@ ghost use Rattle.sr_emit.specs.Report.{report};
 ghost use Rattle.sr_trim.specs.Said.{trim_said};
 ghost use Rattle.sr_files.specs.Files.{GivesFile};
 ghost use Rattle.sr_cli.specs.Words.{asked, checks, only_reads, trims, demos, said, demo_said, AreHoles};
-ghost use Rattle.sr_cli.specs.Run.{Runs, Reports, OnlyPrints, no_names, is_unreported, RunsReadOnly, RunsTrim, RunsDemo, IsSound, SaysSo, HasRunCause, GivesFiles, GivesReadOnly, OnlyReadsFiles, OnlyTouches, OnlyTrims, OnlyDemos, StaysUnwritten};
+ghost use Rattle.sr_cli.specs.Run.{Runs, Reports, OnlyPrints, no_names, is_unreported, RunsReadOnly, RunsTrim, RunsDemo, IsSound, SaysSo, HasRunCause, StaysUnwritten};
+ghost use Rattle.sr_cli.specs.Touching.{GivesFiles, GivesReadOnly, OnlyReadsFiles, OnlyTouches, OnlyTrims, OnlyDemos};
 
 use crate::check::check_files;
 use crate::demo::demo_files;
@@ -73,7 +74,7 @@ fn tell<D: Desk>(alloc: Global, command: Command, found: Outcome, desk: &mut D) 
     report(alloc, command, &NO_FILES, None, found, desk)
 }
 
-/// Runs `check`.
+/// Runs `check`. Out of memory isn't reported.
 fn run_check<D: Desk>(
     alloc: Global,
     limits: &Limits,
@@ -88,8 +89,11 @@ fn run_check<D: Desk>(
     ensures files { GivesReadOnly (checks (said asked_for.now)) (D.outside desk.old) (D.outside desk.new) }
     ensures only { OnlyReadsFiles (checks (said asked_for.now)) (D.outside desk.old) (D.outside desk.new) }
 {
-    let found = check_files(alloc, limits, asked_for, desk);
-    let all = found.counts;
+    let checked = check_files(alloc, limits, asked_for, desk);
+    if is_unreported(checked.outcome) {
+        return checked.outcome;
+    }
+    let all = checked.counts;
     let counts = if asked_for.stats { Some(&all) } else { None };
     let names = FileNames {
         formula: Some(asked_for.formula),
@@ -97,7 +101,7 @@ fn run_check<D: Desk>(
         lsr: None,
         core: None,
     };
-    report(alloc, Command::Check, &names, counts, found.outcome, desk)
+    report(alloc, Command::Check, &names, counts, checked.outcome, desk)
 }
 
 /// Runs `trim`. A fault of a file that is written, and out of memory, aren't reported.

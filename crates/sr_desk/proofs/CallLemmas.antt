@@ -31,7 +31,7 @@ OnlyWrites-trans {n} {a} {b} {c} x y = record {
   begun = y.begun ∙ x.begun;
   file = record {
     output = λ e. y.file.output e ∙ x.file.output e;
-    named = λ own other e ne. y.file.named own other (ap (λ (s : SlotState). s.name) x.slot ∙ e) ne ∙ x.file.named own other e ne;
+    named = λ own other e ne. y.file.named own other (ap (λ (s : SlotState). s.writes_to) x.slot ∙ e) ne ∙ x.file.named own other e ne;
   };
   elsewhere = λ k ne. y.elsewhere k ne ∙ x.elsewhere k ne;
   later = omega (arith, x.later, y.later);

@@ -1,5 +1,5 @@
 -- What the calls of a desk in memory do to the outside.
-use Rattle.std.proofs.Common.{◌≡◌, ℕ, zero, suc, ◌+◌, ◌-◌, ◌<◌, ◌≤◌, ◌==◌, ◌||◌, Bool, true, false, IsTrue, List, [], ◌∷◌, ◌++◌, length, take, drop, set, get_or, Some, Ok, Err, refl, sym, ◌∙◌, ap, arith, length-drop, length-take, zero-add}
+use Rattle.std.proofs.Common.{◌≡◌, ℕ, zero, suc, ◌+◌, ◌-◌, ◌<◌, ◌≤◌, ◌==◌, ◌||◌, Bool, true, false, IsTrue, List, [], ◌∷◌, ◌++◌, length, take, drop, set, get_or, Option, Some, None, Ok, Err, refl, sym, ◌∙◌, ap, arith, length-drop, length-take, zero-add}
 use Rattle.std.proofs.lemmas.List.{get_or-set_same, get_or-set_other, take-append-drop, drop-take}
 use Rattle.std.proofs.Math.Seq.{get_or-append_seam, take-length, take-append_seam, take-add}
 use Rattle.std.proofs.lemmas.Bool.Decides.{nat_tests}
@@ -13,8 +13,8 @@ use Rattle.sr_desk.specs.declared.last_read.LastRead.{LastRead}
 use Rattle.sr_desk.specs.declared.last_read.LastRead.TheVariants.{Fine, Failed}
 use Rattle.sr_desk.specs.Outside.{OnlyReads, OnlyWrites}
 use Rattle.sr_desk.specs.Calls.{BeginsRead, BeginsWrite, Finishes, Moves, Hands, HandsNothing, Sends, Grows, ending_after}
-use Rattle.sr_desk.specs.MemoryParts.{text_at, usage_at, latest, memory_outside, Marks, state_by, name_by, left_by, sent_by, written_by, writes_by, fits, AllFit, AllApart, AllUnused, Raises, more_texts, more_out}
-use Rattle.sr_desk.proofs.MemoryLemmas.{usage-set_same, usage-set_other, given-push, given-more, sent-push, sent-more, sent-out, left-push, written-push, name-push, left-more, written-more, written-out, file-push_other, file-more_other}
+use Rattle.sr_desk.specs.MemoryParts.{text_at, usage_at, latest, memory_outside, Marks, state_by, name_at, left_by, sent_by, written_by, writes_by, fits, AllFit, AllApart, AllNamed, AllUnused, Raises, more_texts, more_out}
+use Rattle.sr_desk.proofs.MemoryLemmas.{usage-set_same, usage-set_other, given-push, given-more, sent-push, sent-more, sent-out, left-push, written-push, named-writing, left-more, written-more, written-out, file-push_other, file-more_other}
 
 pub cleared : (E : List Bool) (n : ℕ) → get_or (set E n false) n false ≡ false
 cleared [] zero = refl
@@ -26,23 +26,30 @@ whole : (bytes : List ℕ) → drop 0 (take (length bytes) bytes) ≡ bytes
 whole bytes = rw (take-length bytes) refl
 
 module _ (N T : List (List ℕ)) (O : List ℕ) (b : ℕ) (U : List Usage) (m : Marks) where
-  pub begins_read-err : (G : List ℕ) (name : List ℕ) (e : CallError) → Raises b m.faults G → b < 8 → b < length m.last → AllUnused b U
-      → BeginsRead {E = CallError} (memory_outside N T O b U m) (memory_outside N T O (b + 1) U (record m { last = set m.last b Failed; faults = G })) name (Err e)
-  begins_read-err G name e r lt lt_last all =
+  pub begins_read-err : (G : List ℕ) (name : List ℕ) (e : CallError) → Raises b m.faults G → b < 8 → b < length m.reads_from → b < length m.last → AllUnused b U
+      → BeginsRead {E = CallError} (memory_outside N T O b U m)
+      (memory_outside N T O (b + 1) U (record m { reads_from = set m.reads_from b (Some name); last = set m.last b Failed; faults = G })) name (Err e)
+  begins_read-err G name e r lt lt_name lt_last all =
       let was : usage_at U b ≡ Unused = all b (omega arith) lt in
       record {
         begun = refl;
         file = refl;
-        elsewhere = λ k ne. rw (r.elsewhere k ne, get_or-set_other m.last b k Failed Fine ne) refl;
+        elsewhere = λ k ne. rw (r.elsewhere k ne, get_or-set_other m.reads_from b k (Some name) None ne, get_or-set_other m.last b k Failed Fine ne) refl;
         later = r.later;
         number = tt;
-        slot = rw (was, get_or-set_same m.last b Failed Fine lt_last) refl;
+        slot = rw (was, get_or-set_same m.reads_from b (Some name) None lt_name, get_or-set_same m.last b Failed Fine lt_last) refl;
       }
 
-  pub begins_write-err : (G : List ℕ) (name : List ℕ) (e : CallError) → Raises b m.faults G
-      → BeginsWrite {E = CallError} (memory_outside N T O b U m) (memory_outside N T O (b + 1) U (record m { faults = G })) name (Err e)
-  begins_write-err G name e r =
-      record { begun = refl; file = λ o ne. refl; elsewhere = λ k ne. rw (r.elsewhere k ne) refl; later = r.later; number = tt; slot = refl }
+  pub begins_write-err : (G : List ℕ) (name : List ℕ) (e : CallError) → Raises b m.faults G → b < length m.writes_to
+      → BeginsWrite {E = CallError} (memory_outside N T O b U m) (memory_outside N T O (b + 1) U (record m { writes_to = set m.writes_to b (Some name); faults = G })) name (Err e)
+  begins_write-err G name e r lt_name = record {
+    begun = refl;
+    file = λ o ne. refl;
+    elsewhere = λ k ne. rw (r.elsewhere k ne, get_or-set_other m.writes_to b k (Some name) None ne) refl;
+    later = r.later;
+    number = tt;
+    slot = rw (get_or-set_same m.writes_to b (Some name) None lt_name) refl;
+  }
 
   pub reads-err : (G : List ℕ) (n : ℕ) → n < length m.last → Raises n m.faults G
       → OnlyReads n (memory_outside N T O b U m) (memory_outside N T O b U (record m { last = set m.last n Failed; faults = G }))
@@ -100,29 +107,28 @@ module _ (N T : List (List ℕ)) (O : List ℕ) (b : ℕ) (U : List Usage) (m : 
     failed = tt;
   }
 
-  pub begins_read-ok : (name : List ℕ) (v : ℕ) (s : Slot) → s.number ≡ b → latest N name ≡ Some v → b < 8 → length U ≡ 9 → b < length m.last → AllUnused b U
+  pub begins_read-ok : (name : List ℕ) (v : ℕ) (s : Slot) → s.number ≡ b → latest N name ≡ Some v → b < 8 → length U ≡ 9 → b < length m.reads_from → b < length m.last → AllUnused b U
       → BeginsRead {E = CallError} (memory_outside N T O b U m)
-      (memory_outside N T O (b + 1) (set U b (Reading v 0 (length (text_at T v)))) (record m { last = set m.last b Fine })) name (Ok s)
-  begins_read-ok name v s is found lt len lt_last all =
+      (memory_outside N T O (b + 1) (set U b (Reading v 0 (length (text_at T v)))) (record m { reads_from = set m.reads_from b (Some name); last = set m.last b Fine })) name (Ok s)
+  begins_read-ok name v s is found lt len lt_name lt_last all =
       let now : usage_at (set U b (Reading v 0 (length (text_at T v)))) b ≡ Reading v 0 (length (text_at T v)) = usage-set_same U b _ (omega arith) in
       let was : usage_at U b ≡ Unused = all b (omega arith) lt in
       record {
         begun = refl;
         file = refl;
-        elsewhere = λ k ne. rw (usage-set_other U b k (Reading v 0 (length (text_at T v))) ne, get_or-set_other m.last b k Fine Fine ne) refl;
+        elsewhere = λ k ne. rw (usage-set_other U b k (Reading v 0 (length (text_at T v))) ne, get_or-set_other m.reads_from b k (Some name) None ne, get_or-set_other m.last b k Fine Fine ne) refl;
         later = omega arith;
         number = is;
-        slot = (rw (now, was, get_or-set_same m.last b Fine Fine lt_last) refl, rw (now, found, whole (text_at T v)) (λ bytes h. h));
+        slot = (rw (now, was, get_or-set_same m.reads_from b (Some name) None lt_name, get_or-set_same m.last b Fine Fine lt_last) refl, rw (now, found, whole (text_at T v)) (λ bytes h. h));
       }
 
-  pub begins_write-ok : (name : List ℕ) (s : Slot) → s.number ≡ b → length N ≡ length T → b < 8 → length U ≡ 9 → b < length m.finished → AllUnused b U → AllFit T U
+  pub begins_write-ok : (name : List ℕ) (s : Slot) → s.number ≡ b → length N ≡ length T → b < 8 → length U ≡ 9 → b < length m.writes_to → b < length m.finished → AllUnused b U → AllFit T U
       → BeginsWrite {E = CallError} (memory_outside N T O b U m)
-      (memory_outside (N ++ name ∷ []) (T ++ [] ∷ []) O (b + 1) (set U b (Writing (length T))) (record m { finished = set m.finished b false })) name (Ok s)
-  begins_write-ok name s is same lt len lt_finished all fit =
+      (memory_outside (N ++ name ∷ []) (T ++ [] ∷ []) O (b + 1) (set U b (Writing (length T))) (record m { writes_to = set m.writes_to b (Some name); finished = set m.finished b false })) name (Ok s)
+  begins_write-ok name s is same lt len lt_name lt_finished all fit =
       let now : usage_at (set U b (Writing (length T))) b ≡ Writing (length T) = usage-set_same U b _ (omega arith) in
       let was : usage_at U b ≡ Unused = all b (omega arith) lt in
       let finished : get_or (set m.finished b false) b false ≡ false = get_or-set_same m.finished b false false lt_finished in
-      let name_is : text_at (N ++ name ∷ []) (length T) ≡ name = rw (← same) (get_or-append_seam N name [] []) in
       let text_is : text_at (T ++ [] ∷ []) (length T) ≡ [] = get_or-append_seam T [] [] [] in
       record {
         begun = refl;
@@ -130,7 +136,7 @@ module _ (N T : List (List ℕ)) (O : List ℕ) (b : ℕ) (U : List Usage) (m : 
         elsewhere = λ k ne. rw (
           usage-set_other U b k (Writing (length T)) ne,
           get_or-set_other m.finished b k false false ne,
-          name-push N T name (usage_at U k) same (fit k),
+          get_or-set_other m.writes_to b k (Some name) None ne,
           given-push T [] (usage_at U k) (fit k),
           left-push T [] (usage_at U k) (fit k),
           sent-push T O [] (usage_at U k) (fit k),
@@ -138,7 +144,7 @@ module _ (N T : List (List ℕ)) (O : List ℕ) (b : ℕ) (U : List Usage) (m : 
         ) refl;
         later = omega arith;
         number = is;
-        slot = (rw (now, was, finished, text_is) refl, (rw now text_is, rw now name_is));
+        slot = (rw (now, was, finished, get_or-set_same m.writes_to b (Some name) None lt_name, text_is) refl, rw now text_is);
       }
 
   pub reads-ok : (n v p q r : ℕ) (l : LastRead) → usage_at U n ≡ Reading v p q → n < length U → n < length m.last
@@ -158,9 +164,9 @@ module _ (N T : List (List ℕ)) (O : List ℕ) (b : ℕ) (U : List Usage) (m : 
         ended = rw (now, get_or-set_same m.last n l Fine lt_last) (λ h e left some. let end : drop r (take q (text_at T v)) ≡ [] = none e in cc);
       }
 
-  pub writes-ok : (n : ℕ) (piece : List ℕ) (u : Usage) → usage_at U n ≡ u → (n ≡ 8 → u ≡ Output) → AllFit T U → AllApart U
+  pub writes-ok : (n : ℕ) (piece : List ℕ) (u : Usage) → usage_at U n ≡ u → (n ≡ 8 → u ≡ Output) → AllFit T U → AllApart U → AllNamed N U m.writes_to
       → OnlyWrites n (memory_outside N T O b U m) (memory_outside N (more_texts T u piece) (more_out O u piece) b U (record m { finished = set m.finished n false }))
-  writes-ok n piece Unused is out fit far = record {
+  writes-ok n piece Unused is out fit far told = record {
     begun = refl;
     file = record { output = λ e. refl; named = λ own other e ne. refl };
     elsewhere = λ k ne. rw (get_or-set_other m.finished n k false false ne) refl;
@@ -168,7 +174,7 @@ module _ (N T : List (List ℕ)) (O : List ℕ) (b : ℕ) (U : List Usage) (m : 
     slot = refl;
     finished = λ e. not_finished n _ e;
   }
-  writes-ok n piece (Reading v p q) is out fit far = record {
+  writes-ok n piece (Reading v p q) is out fit far told = record {
     begun = refl;
     file = record { output = λ e. refl; named = λ own other e ne. refl };
     elsewhere = λ k ne. rw (get_or-set_other m.finished n k false false ne) refl;
@@ -176,12 +182,12 @@ module _ (N T : List (List ℕ)) (O : List ℕ) (b : ℕ) (U : List Usage) (m : 
     slot = refl;
     finished = λ e. not_finished n _ e;
   }
-  writes-ok n piece (Writing v) is out fit far = record {
+  writes-ok n piece (Writing v) is out fit far told = record {
     begun = refl;
     file = record {
       output = λ e. absurd (cc (out e));
-      named = λ own other e ne. let named : name_by N (usage_at U n) ≡ Some own = e in
-          let own_is : text_at N v ≡ own = cc (rw is at named) in file-more_other N T v piece other (λ same. ne (same ∙ own_is));
+      named = λ own other e ne. let named : name_at m.writes_to n ≡ Some (text_at N v) = named-writing N v (name_at m.writes_to n) (rw is at (told n)) in
+          let own_is : text_at N v ≡ own = cc (sym named ∙ e) in file-more_other N T v piece other (λ same. ne (same ∙ own_is));
     };
     elsewhere = λ k ne. rw (
       get_or-set_other m.finished n k false false ne,
@@ -194,7 +200,7 @@ module _ (N T : List (List ℕ)) (O : List ℕ) (b : ℕ) (U : List Usage) (m : 
     slot = rw is refl;
     finished = λ e. not_finished n _ e;
   }
-  writes-ok n piece Output is out fit far = record {
+  writes-ok n piece Output is out fit far told = record {
     begun = refl;
     file = record { output = λ e. refl; named = λ own other e ne. refl };
     elsewhere = λ k ne. rw (
@@ -232,10 +238,10 @@ can_write-sent T O (Writing v) n piece can out fit =
 can_write-sent T O Output n piece can out fit = refl
 
 -- a slot that can be written was sent the piece
-pub sends-ok : (T : List (List ℕ)) (O : List ℕ) (u : Usage) (N : List (List ℕ)) (l k : LastRead) (e f : Bool) (i j n : ℕ) (piece : List ℕ)
+pub sends-ok : (T : List (List ℕ)) (O : List ℕ) (u : Usage) (reads writes : Option (List ℕ)) (l k : LastRead) (e f : Bool) (i j n : ℕ) (piece : List ℕ)
     → IsTrue (n == 8 || writes_by u) → (n ≡ 8 → u ≡ Output) → IsTrue (fits T u)
-    → Sends (state_by N T O u l e i) (state_by N (more_texts T u piece) (more_out O u piece) u k f j) piece
-sends-ok T O u N l k e f i j n piece can out fit = record { sent = can_write-sent T O u n piece can out fit; written = grows-ok T O u piece fit }
+    → Sends (state_by reads writes T O u l e i) (state_by reads writes (more_texts T u piece) (more_out O u piece) u k f j) piece
+sends-ok T O u reads writes l k e f i j n piece can out fit = record { sent = can_write-sent T O u n piece can out fit; written = grows-ok T O u piece fit }
 
 drop-nil : (n : ℕ) → drop {A = ℕ} n [] ≡ []
 drop-nil zero = refl

@@ -3,10 +3,11 @@ use Rattle.std.proofs.Common.{◌≡◌, ℕ, zero, suc, ◌-◌, ◌<◌, true,
 use Rattle.std.specs.Prelude.{option_map}
 use Rattle.std.proofs.lemmas.List.{get_or-set_same, get_or-set_other, drop-append-le, append-nil}
 use Rattle.sr_desk.specs.Outside.{OnlyReads, OnlyWrites, StaysKnown}
-use Rattle.sr_desk.specs.Calls.{ending_after, Moves, HandsNothing, Grows, Sends, Finishes}
+use Rattle.sr_desk.specs.Calls.{ending_after, Moves, Hands, HandsNothing, Grows, Sends, Finishes}
 use Rattle.sr_desk.specs.LastReads.{ending_of}
 use Rattle.sr_desk.proofs.CallLemmas.{none_left}
 use Rattle.sr_desk.specs.Host.{HostParts, host_state, host_outside, left_in, held_in, last_sent, no_targets, IsIdle}
+use Rattle.sr_desk.specs.Names.{no_names}
 use Rattle.sr_desk.specs.MemoryParts.{Raises}
 use Rattle.sr_desk.specs.declared.desk.CallError.{CallError}
 use Rattle.sr_desk.specs.declared.last_read.LastRead.{LastRead}
@@ -53,6 +54,16 @@ module _ {F : Type 0} (remaining contents : F → Option (List ℕ)) (d : HostPa
     slot = refl;
     source = rw (get_or-set_same d.given n given [] lt_given, get_or-set_same d.sources n f None lt_sources, more) (source-moves _ _ (get_or d.given n []) piece count moves);
     ended = rw (get_or-set_same d.sources n f None lt_sources, get_or-set_same d.last n l Fine lt_last) (λ h. none_left (left_in remaining (get_or d.sources n None)) (left_in remaining f) l piece count ends moves);
+  }
+
+  pub hands-ok : (l : LastRead) (given piece : List ℕ) (count : ℕ) (f : Option F) → n < length d.given → n < length d.sources → n < length d.last
+      → Moves (left_in remaining (get_or d.sources n None)) (left_in remaining f) count piece
+      → given ≡ get_or d.given n [] ++ take count piece → ending_of l ≡ ending_after count piece
+      → Hands (host_state remaining contents d n) (host_state remaining contents (record d { last = set d.last n l; given = set d.given n given; sources = set d.sources n f }) n) count piece
+  hands-ok l given piece count f lt_given lt_sources lt_last moves more ends = record {
+    given = rw (get_or-set_same d.given n given [] lt_given) more;
+    ending = rw (get_or-set_same d.last n l Fine lt_last) ends;
+    left = rw (get_or-set_same d.sources n f None lt_sources) moves;
   }
 
   pub only_reads-err : (faults : List ℕ) (f : Option F) → n < length d.sources → n < length d.last
@@ -140,6 +151,8 @@ module _ {F : Type 0} (remaining contents : F → Option (List ℕ)) (d : HostPa
 abbrev fresh : (F : Type 0) → HostParts F
 fresh F = record {
   begun = 0;
+  reads_from = no_names;
+  writes_to = no_names;
   reads = false ∷ false ∷ false ∷ false ∷ false ∷ false ∷ false ∷ false ∷ false ∷ [];
   writes = false ∷ false ∷ false ∷ false ∷ false ∷ false ∷ false ∷ false ∷ false ∷ [];
   finished = false ∷ false ∷ false ∷ false ∷ false ∷ false ∷ false ∷ false ∷ false ∷ [];
@@ -152,13 +165,13 @@ fresh F = record {
 }
 
 pub idle : {F : Type 0} (remaining contents : F → Option (List ℕ)) (n : ℕ) → IsIdle (host_state remaining contents (fresh F) n)
-idle remaining contents zero = record { given = refl; ending = refl; left = refl; sent = refl; written = refl; name = refl; reads = refl; writes = refl; finished = refl; faults = refl }
-idle remaining contents (suc zero) = record { given = refl; ending = refl; left = refl; sent = refl; written = refl; name = refl; reads = refl; writes = refl; finished = refl; faults = refl }
-idle remaining contents (suc (suc zero)) = record { given = refl; ending = refl; left = refl; sent = refl; written = refl; name = refl; reads = refl; writes = refl; finished = refl; faults = refl }
-idle remaining contents (suc (suc (suc zero))) = record { given = refl; ending = refl; left = refl; sent = refl; written = refl; name = refl; reads = refl; writes = refl; finished = refl; faults = refl }
-idle remaining contents (suc (suc (suc (suc zero)))) = record { given = refl; ending = refl; left = refl; sent = refl; written = refl; name = refl; reads = refl; writes = refl; finished = refl; faults = refl }
-idle remaining contents (suc (suc (suc (suc (suc zero))))) = record { given = refl; ending = refl; left = refl; sent = refl; written = refl; name = refl; reads = refl; writes = refl; finished = refl; faults = refl }
-idle remaining contents (suc (suc (suc (suc (suc (suc zero)))))) = record { given = refl; ending = refl; left = refl; sent = refl; written = refl; name = refl; reads = refl; writes = refl; finished = refl; faults = refl }
-idle remaining contents (suc (suc (suc (suc (suc (suc (suc zero))))))) = record { given = refl; ending = refl; left = refl; sent = refl; written = refl; name = refl; reads = refl; writes = refl; finished = refl; faults = refl }
-idle remaining contents (suc (suc (suc (suc (suc (suc (suc (suc zero)))))))) = record { given = refl; ending = refl; left = refl; sent = refl; written = refl; name = refl; reads = refl; writes = refl; finished = refl; faults = refl }
-idle remaining contents (suc (suc (suc (suc (suc (suc (suc (suc (suc n))))))))) = record { given = refl; ending = refl; left = refl; sent = refl; written = refl; name = refl; reads = refl; writes = refl; finished = refl; faults = refl }
+idle remaining contents zero = record { given = refl; ending = refl; left = refl; sent = refl; written = refl; reads_from = refl; writes_to = refl; reads = refl; writes = refl; finished = refl; faults = refl }
+idle remaining contents (suc zero) = record { given = refl; ending = refl; left = refl; sent = refl; written = refl; reads_from = refl; writes_to = refl; reads = refl; writes = refl; finished = refl; faults = refl }
+idle remaining contents (suc (suc zero)) = record { given = refl; ending = refl; left = refl; sent = refl; written = refl; reads_from = refl; writes_to = refl; reads = refl; writes = refl; finished = refl; faults = refl }
+idle remaining contents (suc (suc (suc zero))) = record { given = refl; ending = refl; left = refl; sent = refl; written = refl; reads_from = refl; writes_to = refl; reads = refl; writes = refl; finished = refl; faults = refl }
+idle remaining contents (suc (suc (suc (suc zero)))) = record { given = refl; ending = refl; left = refl; sent = refl; written = refl; reads_from = refl; writes_to = refl; reads = refl; writes = refl; finished = refl; faults = refl }
+idle remaining contents (suc (suc (suc (suc (suc zero))))) = record { given = refl; ending = refl; left = refl; sent = refl; written = refl; reads_from = refl; writes_to = refl; reads = refl; writes = refl; finished = refl; faults = refl }
+idle remaining contents (suc (suc (suc (suc (suc (suc zero)))))) = record { given = refl; ending = refl; left = refl; sent = refl; written = refl; reads_from = refl; writes_to = refl; reads = refl; writes = refl; finished = refl; faults = refl }
+idle remaining contents (suc (suc (suc (suc (suc (suc (suc zero))))))) = record { given = refl; ending = refl; left = refl; sent = refl; written = refl; reads_from = refl; writes_to = refl; reads = refl; writes = refl; finished = refl; faults = refl }
+idle remaining contents (suc (suc (suc (suc (suc (suc (suc (suc zero)))))))) = record { given = refl; ending = refl; left = refl; sent = refl; written = refl; reads_from = refl; writes_to = refl; reads = refl; writes = refl; finished = refl; faults = refl }
+idle remaining contents (suc (suc (suc (suc (suc (suc (suc (suc (suc n))))))))) = record { given = refl; ending = refl; left = refl; sent = refl; written = refl; reads_from = refl; writes_to = refl; reads = refl; writes = refl; finished = refl; faults = refl }

@@ -7,7 +7,7 @@ use Rattle.std.proofs.lemmas.Bool.Decides.{nat_tests}
 use Rattle.std.proofs.lemmas.Slice.Eq.{bytes_eq-Decides}
 use Rattle.sr_desk.specs.declared.held.Usage.{Usage}
 use Rattle.sr_desk.specs.declared.held.Usage.TheVariants.{Unused, Reading, Writing, Output}
-use Rattle.sr_desk.specs.MemoryParts.{text_at, usage_at, last_below, latest, file_in, name_by, given_by, left_by, sent_by, written_by, reads_by, fits, apart, AllFit, AllApart, AllUnused, more_texts}
+use Rattle.sr_desk.specs.MemoryParts.{text_at, usage_at, last_below, latest, file_in, given_by, left_by, sent_by, written_by, reads_by, fits, apart, is_named, name_at, AllFit, AllApart, AllNamed, AllUnused, more_texts}
 
 -- the slot that was changed, and the others
 pub usage-set : (uses : List Usage) (i : ℕ) (u : Usage) (n : ℕ) → (usage_at (set uses i u) n ≡ u) ⊎ (usage_at (set uses i u) n ≡ usage_at uses n)
@@ -109,13 +109,6 @@ written-push texts out t (Reading v p q) h = refl
 written-push texts out t (Writing v) h =
     let lt : v < length texts = grind (arith, nat_tests) in rw (get_or_append_left texts (t ∷ []) [] v lt) refl
 written-push texts out t Output h = refl
-
-pub name-push : (names texts : List (List ℕ)) (t : List ℕ) (u : Usage) → length names ≡ length texts → IsTrue (fits texts u) → name_by (names ++ t ∷ []) u ≡ name_by names u
-name-push names texts t Unused e h = refl
-name-push names texts t (Reading v p q) e h = refl
-name-push names texts t (Writing v) e h =
-    let lt : v < length names = grind (arith, nat_tests) in rw (get_or_append_left names (t ∷ []) [] v lt) refl
-name-push names texts t Output e h = refl
 
 -- a longer text
 at_more : (texts : List (List ℕ)) (w v : ℕ) (piece : List ℕ) → (text_at (set texts w (text_at texts w ++ piece)) v ≡ text_at texts v) ⊎ ((v ≡ w) × (text_at (set texts w (text_at texts w ++ piece)) v ≡ text_at texts v ++ piece))
@@ -288,3 +281,50 @@ not_reading Unused n h = cc
 not_reading (Reading v p q) n h = n v p q refl
 not_reading (Writing v) n h = cc
 not_reading Output n h = cc
+
+-- the name that a slot which writes was begun with
+pub named-writing : (names : List (List ℕ)) (v : ℕ) (told : Option (List ℕ)) → IsTrue (is_named names (Writing v) told) → told ≡ Some (text_at names v)
+named-writing names v None h = cc
+named-writing names v (Some name) h = ap (λ (n : List ℕ). Some n) ((bytes_eq-Decides name (text_at names v)).0 h)
+
+pub AllNamed-reading : (names : List (List ℕ)) (uses : List Usage) (told : List (Option (List ℕ))) (i v p q : ℕ) → AllNamed names uses told → AllNamed names (set uses i (Reading v p q)) told
+AllNamed-reading names uses told i v p q all n = elim (usage-set uses i (Reading v p q) n) [ inl e ↦ rw e refl | inr e ↦ rw e (all n) ]
+
+same_slot : (a b : ℕ) → (a ≡ b) ⊎ (a ≢ b)
+same_slot a b = grind arith
+
+-- a slot that wasn't begun before gets a name
+pub AllNamed-told : (names : List (List ℕ)) (uses : List Usage) (told : List (Option (List ℕ))) (b : ℕ) (name : Option (List ℕ)) → b < 8 → AllUnused b uses → AllNamed names uses told
+    → AllNamed names uses (set told b name)
+AllNamed-told names uses told b name lt unused all n = go (same_slot n b)
+  where
+    go : (n ≡ b) ⊎ (n ≢ b) → IsTrue (is_named names (usage_at uses n) (name_at (set told b name) n))
+    go (inl e) = let was : usage_at uses b ≡ Unused = unused b (omega arith) lt in rw (e, was) refl
+    go (inr ne) = rw (get_or-set_other told b n name None ne) (all n)
+
+named-push : (names texts : List (List ℕ)) (t : List ℕ) (u : Usage) (told : Option (List ℕ)) → length names ≡ length texts → IsTrue (fits texts u) → IsTrue (is_named names u told)
+    → IsTrue (is_named (names ++ t ∷ []) u told)
+named-push names texts t Unused told e h is = refl
+named-push names texts t (Reading v p q) told e h is = refl
+named-push names texts t (Writing v) None e h is = is
+named-push names texts t (Writing v) (Some name) e h is =
+    let lt : v < length names = grind (arith, nat_tests) in rw (get_or_append_left names (t ∷ []) [] v lt) is
+named-push names texts t Output told e h is = refl
+
+-- one more name
+pub AllNamed-push : (names texts : List (List ℕ)) (t : List ℕ) (uses : List Usage) (told : List (Option (List ℕ))) → length names ≡ length texts → AllFit texts uses → AllNamed names uses told
+    → AllNamed (names ++ t ∷ []) uses told
+AllNamed-push names texts t uses told e fit all n = named-push names texts t (usage_at uses n) (name_at told n) e (fit n) (all n)
+
+-- a slot that was begun now writes the file of its name
+pub AllNamed-begun : (names texts : List (List ℕ)) (name : List ℕ) (uses : List Usage) (told : List (Option (List ℕ))) (b : ℕ) → length names ≡ length texts → b < length uses → b < length told
+    → AllFit texts uses → AllNamed names uses told → AllNamed (names ++ name ∷ []) (set uses b (Writing (length texts))) (set told b (Some name))
+AllNamed-begun names texts name uses told b e lt lt_told fit all n = go (same_slot n b)
+  where
+    go : (n ≡ b) ⊎ (n ≢ b) → IsTrue (is_named (names ++ name ∷ []) (usage_at (set uses b (Writing (length texts))) n) (name_at (set told b (Some name)) n))
+    go (inl same) =
+        let name_is : text_at (names ++ name ∷ []) (length texts) ≡ name = rw (← e) (get_or-append_seam names name [] []) in
+        rw (same, usage-set_same uses b (Writing (length texts)) lt, get_or-set_same told b (Some name) None lt_told, name_is) ((bytes_eq-Decides name name).1 refl)
+    go (inr ne) =
+        rw (usage-set_other uses b n (Writing (length texts)) ne, get_or-set_other told b n (Some name) None ne)
+        (AllNamed-push names texts name uses told e fit all n)

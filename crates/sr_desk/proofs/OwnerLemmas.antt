@@ -6,7 +6,7 @@ use Rattle.sr_desk.specs.declared.last_read.LastRead.{LastRead}
 use Rattle.sr_desk.specs.declared.held.Usage.{Usage}
 use Rattle.sr_desk.specs.declared.held.Usage.TheVariants.{Unused, Reading, Writing, Output}
 use Rattle.sr_desk.specs.MemoryParts.{usage_at, latest, fits, is_version, state_by, writes_file_by, AllFit, AllUnused}
-use Rattle.sr_desk.proofs.MemoryLemmas.{usage-set, usage-set_same, usage-set_other, last_below-is, latest-push, latest-push_other, name-push, given-push, sent-push, left-push, written-push}
+use Rattle.sr_desk.proofs.MemoryLemmas.{usage-set, usage-set_same, usage-set_other, last_below-is, latest-push, latest-push_other, given-push, sent-push, left-push, written-push}
 
 same_place : (a b : ℕ) → (a ≡ b) ⊎ (a ≢ b)
 same_place a b = grind arith
@@ -70,7 +70,7 @@ owner-begun_other N T name other U b k len lt nine all ne = go (same_place k b)
     go (inr far) = rw (usage-set_other U b k (Writing (length T)) far) (owner-push_other N name other (usage_at U k) ne)
 
 -- a file that is begun or put now leaves the slots as they were
-pub state-push : (N T : List (List ℕ)) (O name bytes : List ℕ) (u : Usage) (l : LastRead) (finished : Bool) (faults : ℕ) → length N ≡ length T → IsTrue (fits T u)
-    → state_by (N ++ name ∷ []) (T ++ bytes ∷ []) O u l finished faults ≡ state_by N T O u l finished faults
-state-push N T O name bytes u l finished faults len fit =
-    rw (name-push N T name u len fit, given-push T bytes u fit, left-push T bytes u fit, sent-push T O bytes u fit, written-push T O bytes u fit) refl
+pub state-push : (reads writes : Option (List ℕ)) (T : List (List ℕ)) (O bytes : List ℕ) (u : Usage) (l : LastRead) (finished : Bool) (faults : ℕ) → IsTrue (fits T u)
+    → state_by reads writes (T ++ bytes ∷ []) O u l finished faults ≡ state_by reads writes T O u l finished faults
+state-push reads writes T O bytes u l finished faults fit =
+    rw (given-push T bytes u fit, left-push T bytes u fit, sent-push T O bytes u fit, written-push T O bytes u fit) refl

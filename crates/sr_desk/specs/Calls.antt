@@ -53,18 +53,22 @@ abbrev pub WriteAppends : {E : Type 0} → SlotState → SlotState → Result �
 WriteAppends old new (Ok n) piece = Appends old new n piece
 WriteAppends old new (Err e) piece = Sends old new []
 
--- the slot reads the file's bytes from their start; else nothing changed but that its reading failed, and its count of faults
-abbrev pub HandsOutReading : {E : Type 0} → SlotState → SlotState → Option (List ℕ) → Result Slot E → Type 0
-HandsOutReading old new file (Ok s) =
-    (new ≡ record old { reads = true; given = []; ending = None; left = new.left; faults = new.faults }) × StaysKnown file new.left
-HandsOutReading old new file (Err e) = new ≡ record old { given = []; ending = Some contents.failed; faults = new.faults }
+-- the slot reads the bytes of the file of this name from their start; else nothing changed but that its reading failed, the name that
+-- it tried to read, and its count of faults
+abbrev pub HandsOutReading : {E : Type 0} → SlotState → SlotState → List ℕ → Option (List ℕ) → Result Slot E → Type 0
+HandsOutReading old new name file (Ok s) =
+    (new ≡ record old { reads_from = Some name; reads = true; given = []; ending = None; left = new.left; faults = new.faults })
+    × StaysKnown file new.left
+HandsOutReading old new name file (Err e) =
+    new ≡ record old { reads_from = Some name; given = []; ending = Some contents.failed; faults = new.faults }
 
--- the slot writes under this name, and nothing was written; else nothing changed but its count of faults
+-- the slot writes the file of this name, and nothing was written; else nothing changed but the name that it tried to write, and its
+-- count of faults
 abbrev pub HandsOutWriting : {E : Type 0} → SlotState → SlotState → List ℕ → Result Slot E → Type 0
 HandsOutWriting old new name (Ok s) =
-    (new ≡ record old { writes = true; sent = []; written = new.written; name = new.name; finished = false; faults = new.faults })
-    × (IfSome new.written (λ bytes. bytes ≡ []) × IfSome new.name (λ n. n ≡ name))
-HandsOutWriting old new name (Err e) = new ≡ record old { faults = new.faults }
+    (new ≡ record old { writes_to = Some name; writes = true; sent = []; written = new.written; finished = false; faults = new.faults })
+    × IfSome new.written (λ bytes. bytes ≡ [])
+HandsOutWriting old new name (Err e) = new ≡ record old { writes_to = Some name; faults = new.faults }
 
 -- nothing changed but that the slot is finished, where that is the answer, and its count of faults, which has not fallen
 pub record Finishes {E : Type 0} (n : ℕ) (old new : Outside) (result : Result (Unit {0}) E) : Type 0 where
@@ -84,7 +88,7 @@ pub record BeginsRead {E : Type 0} (old new : Outside) (name : List ℕ) (result
   pub elsewhere : SameElsewhere old.begun old new
   pub later : (old.slot old.begun).faults ≤ (new.slot old.begun).faults
   pub number : IfOk result (λ s. s.number ≡ old.begun)
-  pub slot : HandsOutReading (old.slot old.begun) (new.slot old.begun) (old.file name) result
+  pub slot : HandsOutReading (old.slot old.begun) (new.slot old.begun) name (old.file name) result
 
 -- the next slot was begun for writing, or failed to be; no file changed but that of the name
 pub record BeginsWrite {E : Type 0} (old new : Outside) (name : List ℕ) (result : Result Slot E) : Type 0 where

@@ -24,6 +24,8 @@ last_sent sent held = option_map (λ bytes. drop (length bytes - length sent) by
 
 pub record HostParts (F : Type 0) : Type 0 where
   pub begun : ℕ
+  pub reads_from : List (Option (List ℕ))
+  pub writes_to : List (Option (List ℕ))
   pub reads : List Bool
   pub writes : List Bool
   pub finished : List Bool
@@ -37,7 +39,8 @@ pub record HostParts (F : Type 0) : Type 0 where
 -- a slot, where files tell what they have still to give, and what they hold
 abbrev pub host_state : {F : Type 0} → (F → Option (List ℕ)) → (F → Option (List ℕ)) → HostParts F → ℕ → SlotState
 host_state remaining contents d n = record {
-  name = None;
+  reads_from = slice_index_or d.reads_from n None;
+  writes_to = slice_index_or d.writes_to n None;
   given = slice_index_or d.given n [];
   ending = ending_of (slice_index_or d.last n Fine);
   left = left_in remaining (slice_index_or d.sources n None);
@@ -55,14 +58,15 @@ host_outside remaining contents d = record { begun = d.begun; slot = host_state 
 abbrev pub no_targets : {F : Type 0} → List (Target F)
 no_targets = Nothing ∷ Nothing ∷ Nothing ∷ Nothing ∷ Nothing ∷ Nothing ∷ Nothing ∷ Nothing ∷ Output ∷ []
 
--- a slot that wasn't begun: it gave and took nothing, no call on it has failed, and no bytes are known
+-- a slot that wasn't begun: it has no name, it gave and took nothing, no call on it has failed, and no bytes are known
 pub record IsIdle (s : SlotState) : Type 0 where
   pub given : s.given ≡ []
   pub ending : s.ending ≡ None
   pub left : s.left ≡ None
   pub sent : s.sent ≡ []
   pub written : s.written ≡ None
-  pub name : s.name ≡ None
+  pub reads_from : s.reads_from ≡ None
+  pub writes_to : s.writes_to ≡ None
   pub reads : s.reads ≡ false
   pub writes : s.writes ≡ false
   pub finished : s.finished ≡ false

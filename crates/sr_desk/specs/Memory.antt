@@ -29,7 +29,7 @@ pub record Counts (kind : CallKind) (old new : Memory) : Type 0 where
 -- the file of the name is empty, the slot alone writes it, and the slots of other names write what they wrote
 pub record EmptiesFile (n : ℕ) (name : List ℕ) (old new : Memory) : Type 0 where
   pub file : new.outside.file name ≡ Some []
-  pub named : (new.outside.slot n).name ≡ Some name
+  pub named : (new.outside.slot n).writes_to ≡ Some name
   pub written : (new.outside.slot n).written ≡ Some []
   pub own : (k : ℕ) → new.writes_file k name ≡ (k == n)
   pub others : (k : ℕ) (other : List ℕ) → other ≢ name → new.writes_file k other ≡ old.writes_file k other
@@ -65,7 +65,8 @@ Refuses kind nth old new = (k : CallKind) (n : ℕ) → new.refuses k n ≡ (old
 pub record IsFresh (o : Outside) : Type 0 where
   pub begun : o.begun ≡ 0
   pub printed : (o.slot 8).written ≡ Some []
-  pub names : (n : ℕ) → n ≤ 8 → (o.slot n).name ≡ None
+  pub reads_from : (n : ℕ) → n ≤ 8 → (o.slot n).reads_from ≡ None
+  pub writes_to : (n : ℕ) → n ≤ 8 → (o.slot n).writes_to ≡ None
   pub given : (n : ℕ) → n ≤ 8 → (o.slot n).given ≡ []
   pub ending : (n : ℕ) → n ≤ 8 → (o.slot n).ending ≡ None
   pub left : (n : ℕ) → n ≤ 8 → (o.slot n).left ≡ None

@@ -31,10 +31,6 @@ abbrev pub file_in : List (List ℕ) → List (List ℕ) → List ℕ → Option
 file_in names texts name = option_map (text_at texts) (latest names name)
 
 -- a slot, by what it is used for
-abbrev pub name_by : List (List ℕ) → Usage → Option (List ℕ)
-name_by names (Writing version) = Some (text_at names version)
-name_by names _ = None
-
 abbrev pub left_by : List (List ℕ) → Usage → Option (List ℕ)
 left_by texts (Reading version place end) = Some (drop place (take end (text_at texts version)))
 left_by texts _ = None
@@ -72,9 +68,10 @@ abbrev pub writes_file_by : List (List ℕ) → Usage → List ℕ → Bool
 writes_file_by names (Writing version) name = is_version (latest names name) version
 writes_file_by names _ name = false
 
-abbrev pub state_by : List (List ℕ) → List (List ℕ) → List ℕ → Usage → LastRead → Bool → ℕ → SlotState
-state_by names texts out usage last finished faults = record {
-  name = name_by names usage;
+abbrev pub state_by : Option (List ℕ) → Option (List ℕ) → List (List ℕ) → List ℕ → Usage → LastRead → Bool → ℕ → SlotState
+state_by reads_from writes_to texts out usage last finished faults = record {
+  reads_from = reads_from;
+  writes_to = writes_to;
   given = given_by texts usage;
   ending = ending_of last;
   left = left_by texts usage;
@@ -89,8 +86,13 @@ state_by names texts out usage last finished faults = record {
 abbrev pub usage_at : List Usage → ℕ → Usage
 usage_at uses n = slice_index_or uses n Unused
 
--- how the last calls for reading ended, which slots are finished, and the counts of faults
+abbrev pub name_at : List (Option (List ℕ)) → ℕ → Option (List ℕ)
+name_at names n = slice_index_or names n None
+
+-- the names that slots were begun with, how the last calls for reading ended, which slots are finished, and the counts of faults
 pub record Marks : Type 0 where
+  pub reads_from : List (Option (List ℕ))
+  pub writes_to : List (Option (List ℕ))
   pub last : List LastRead
   pub finished : List Bool
   pub faults : List ℕ
@@ -98,7 +100,8 @@ pub record Marks : Type 0 where
 abbrev pub memory_outside : List (List ℕ) → List (List ℕ) → List ℕ → ℕ → List Usage → Marks → Outside
 memory_outside names texts out begun uses m = record {
   begun = begun;
-  slot = λ n. state_by names texts out (usage_at uses n) (slice_index_or m.last n Fine) (slice_index_or m.finished n false) (slice_index_or m.faults n 0);
+  slot = λ n. state_by (name_at m.reads_from n) (name_at m.writes_to n) texts out (usage_at uses n) (slice_index_or m.last n Fine)
+      (slice_index_or m.finished n false) (slice_index_or m.faults n 0);
   file = file_in names texts;
 }
 
@@ -119,6 +122,15 @@ AllFit texts uses = (n : ℕ) → IsTrue (fits texts (usage_at uses n))
 
 abbrev pub AllApart : List Usage → Type 0
 AllApart uses = (i j : ℕ) → i ≢ j → IsTrue (apart (usage_at uses i) (usage_at uses j))
+
+-- a slot that writes was begun with the name of its version
+abbrev pub is_named : List (List ℕ) → Usage → Option (List ℕ) → Bool
+is_named names (Writing version) (Some name) = bytes_eq name (text_at names version)
+is_named names (Writing version) None = false
+is_named names _ told = true
+
+abbrev pub AllNamed : List (List ℕ) → List Usage → List (Option (List ℕ)) → Type 0
+AllNamed names uses told = (n : ℕ) → IsTrue (is_named names (usage_at uses n) (name_at told n))
 
 -- slots that were not begun are not used
 abbrev pub AllUnused : ℕ → List Usage → Type 0

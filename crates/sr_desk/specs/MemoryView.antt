@@ -6,7 +6,13 @@ use Rattle.sr_desk.specs.Refusing.{calls_in, refuses_in}
 use Rattle.sr_desk.specs.declared.memory.MemoryDesk.{MemoryDesk}
 
 abbrev pub outside_of : MemoryDesk → Outside
-outside_of d = memory_outside (names_of d.versions.items) (texts_of d.versions.items) d.out.items d.begun d.uses (record { last = d.last; finished = d.finished; faults = d.faults })
+outside_of d = memory_outside (names_of d.versions.items) (texts_of d.versions.items) d.out.items d.begun d.uses (record {
+  reads_from = d.reads_from;
+  writes_to = d.writes_to;
+  last = d.last;
+  finished = d.finished;
+  faults = d.faults;
+})
 
 abbrev pub memory_of : MemoryDesk → Memory
 memory_of d = record {

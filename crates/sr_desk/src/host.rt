@@ -6,24 +6,26 @@ ghost use Rattle.sr_desk.specs.Host.{host_outside, left_in, held_in, no_targets,
 
 use crate::history::History;
 use crate::last_read::{LastRead, after_read};
+use crate::opening::{create_named, open_named};
 use crate::steps::raise;
 use crate::target::Target;
-use crate::{CallError, Desk, Slot};
-use std::fs;
+use crate::{CallError, Desk, FileName, Slot, no_names};
 use std::io::{self, Read, Write};
 use std::rt::Runtime;
 
 /// Real files and standard output, through the runtime.
 ///
-/// Contracts see the bytes that were read and written, and what the runtime's files tell beside
-/// them. The files of the system tell nothing: that they hand out what they hold, and hold what they
-/// take, is trusted.
+/// Contracts see the names that files were begun with, the bytes that were read and written, and what
+/// the runtime's files tell beside them. The files of the system tell nothing: that a call opens the
+/// file that it names, and that files hand out what they hold, and hold what they take, is trusted.
 #[derive(Drop)]
 pub struct HostDesk<R: Runtime> {
     rt: R,
     sources: [Option<R::File>; 9],
     targets: [Target<R::File>; 9],
     begun: u8,
+    reads_from: [FileName; 9],
+    writes_to: [FileName; 9],
     reads: [bool; 9],
     writes: [bool; 9],
     finished: [bool; 9],
@@ -42,6 +44,8 @@ impl<R: Runtime> HostDesk<R> {
             sources: [None, None, None, None, None, None, None, None, None],
             targets: targets(),
             begun: 0,
+            reads_from: no_names(),
+            writes_to: no_names(),
             reads: [false; 9],
             writes: [false; 9],
             finished: [false; 9],
@@ -56,6 +60,8 @@ impl<R: Runtime> HostDesk<R> {
 impl<R: Runtime> Desk for HostDesk<R> {
     ghost outside = { λ d. host_outside R.File.remaining R.File.contents record {
       begun = d.begun;
+      reads_from = d.reads_from;
+      writes_to = d.writes_to;
       reads = d.reads;
       writes = d.writes;
       finished = d.finished;
@@ -72,14 +78,16 @@ impl<R: Runtime> Desk for HostDesk<R> {
         let n = slot.number as usize;
         self.begun += 1;
         self.given[n] = History::new();
-        match fs::open(&self.rt, name) {
-            Ok(file) => {
+        let opening = open_named(&self.rt, name);
+        self.reads_from[n] = opening.name;
+        match opening.file {
+            Some(file) => {
                 self.sources[n] = Some(file);
                 self.reads[n] = true;
                 self.last[n] = LastRead::Fine;
                 Ok(slot)
             }
-            Err(_) => {
+            None => {
                 self.last[n] = LastRead::Failed;
                 Err(raise(&mut self.faults, slot))
             }
@@ -90,15 +98,17 @@ impl<R: Runtime> Desk for HostDesk<R> {
         let slot = Slot { number: self.begun };
         let n = slot.number as usize;
         self.begun += 1;
-        match fs::create(&self.rt, name) {
-            Ok(file) => {
+        let opening = create_named(&self.rt, name);
+        self.writes_to[n] = opening.name;
+        match opening.file {
+            Some(file) => {
                 self.targets[n] = Target::File(file);
                 self.writes[n] = true;
                 self.finished[n] = false;
                 self.sent[n] = History::new();
                 Ok(slot)
             }
-            Err(_) => Err(raise(&mut self.faults, slot)),
+            None => Err(raise(&mut self.faults, slot)),
         }
     }
 

@@ -1,6 +1,6 @@
 // Files in memory, for tests.
 ghost use Rattle.std.specs.Prelude.{◌≡◌, ◌<◌};
-ghost use Rattle.sr_desk.specs.MemoryParts.{AllFit, AllApart, AllUnused, texts_of, usage_at};
+ghost use Rattle.sr_desk.specs.MemoryParts.{AllFit, AllApart, AllUnused, AllNamed, names_of, texts_of, usage_at};
 ghost use Rattle.sr_desk.specs.declared.held.Usage.TheVariants.{Output};
 
 use crate::find::find;
@@ -8,7 +8,7 @@ use crate::held::{Usage, Version};
 use crate::last_read::{LastRead, after_read};
 use crate::refusals::Refusals;
 use crate::steps::{add, append, copy_text, raise, text, text_len};
-use crate::{CallError, CallKind, Desk, Slot};
+use crate::{CallError, CallKind, Desk, FileName, Slot, no_names};
 use sr_base::NoMemory;
 use std::alloc::Global;
 
@@ -24,6 +24,8 @@ pub struct MemoryDesk {
     versions: Vec<Version>,
     out: Vec<u8>,
     begun: u8,
+    reads_from: [FileName; 9],
+    writes_to: [FileName; 9],
     uses: [Usage; 9],
     last: [LastRead; 9],
     finished: [bool; 9],
@@ -33,6 +35,7 @@ pub struct MemoryDesk {
     ghost fit: { AllFit (texts_of versions.items) uses },
     ghost apart: { AllApart uses },
     ghost later: { AllUnused begun uses },
+    ghost named: { AllNamed (names_of versions.items) uses writes_to },
     ghost output: { usage_at uses 8 ≡ Output },
     ghost some: { 0 < most },
 }
@@ -58,6 +61,7 @@ impl Desk for MemoryDesk {
     {
         let slot = Slot { number: self.begun };
         self.begun += 1;
+        self.reads_from[slot.number as usize] = FileName::of(name);
         if self.refusals.due(CallKind::BeginRead) {
             self.last[slot.number as usize] = LastRead::Failed;
             return Err(raise(&mut self.faults, slot));
@@ -93,6 +97,7 @@ impl Desk for MemoryDesk {
     {
         let slot = Slot { number: self.begun };
         self.begun += 1;
+        self.writes_to[slot.number as usize] = FileName::of(name);
         if self.refusals.due(CallKind::BeginWrite) {
             return Err(raise(&mut self.faults, slot));
         }
@@ -201,6 +206,8 @@ impl MemoryDesk {
             versions: Vec::new(alloc),
             out: Vec::new(alloc),
             begun: 0,
+            reads_from: no_names(),
+            writes_to: no_names(),
             uses: FRESH,
             last: [LastRead::Fine; 9],
             finished: [false; 9],
@@ -277,6 +284,8 @@ impl MemoryDesk {
         ensures most { (memory_of self.new).most ≡ (memory_of self.old).most }
     {
         self.begun = 0;
+        self.reads_from = no_names();
+        self.writes_to = no_names();
         self.uses = FRESH;
         self.last = [LastRead::Fine; 9];
         self.finished = [false; 9];

@@ -1,6 +1,6 @@
 // Which calls of a desk in memory are to fail.
 ghost use Rattle.std.specs.Prelude.{◌≡◌, ◌++◌, ◌∷◌, [], OnOk, OnErr, min, ◌^◌, ◌-◌};
-ghost use Rattle.sr_desk.specs.Refusing.{kind_number, calls_in, calls_after, refuses_in};
+ghost use Rattle.sr_desk.specs.Refusing.{kind_number, one_more, calls_in, calls_after, refuses_in};
 
 use sr_base::NoMemory;
 use std::alloc::Global;
@@ -72,8 +72,9 @@ impl Refusals {
 
     /// Counts a call, and says whether it is to fail.
     pub(crate) fn due(&mut self, kind: CallKind) -> bool
-        ensures due { result ≡ refuses_in self.old.refused.items kind (calls_in (calls_after self.old.calls kind) kind) }
+        ensures due { result ≡ refuses_in self.old.refused.items kind (one_more (calls_in self.old.calls kind)) }
         ensures calls { self.new.calls ≡ calls_after self.old.calls kind }
+        ensures counted { calls_in self.new.calls kind ≡ one_more (calls_in self.old.calls kind) }
         ensures refused { self.new.refused.items ≡ self.old.refused.items }
     {
         let at = number(kind) as usize;

@@ -30,7 +30,7 @@ only_read_on {a} {b} {c} r e = record {
   sent = ap (λ (s : SlotState). s.sent) e ∙ r.sent;
   written = ap (λ (s : SlotState). s.written) e ∙ r.written;
   finished = ap (λ (s : SlotState). s.finished) e ∙ r.finished;
-  name = ap (λ (s : SlotState). s.name) e ∙ r.name;
+  writes_to = ap (λ (s : SlotState). s.writes_to) e ∙ r.writes_to;
 }
 
 -- what was begun is then only read
@@ -53,11 +53,12 @@ reads_on n m o0 o1 o2 r only low high = record {
     after k (inr ne) = rw (only.elsewhere k ne) (r.later k)
 
 pub opened_on : (n : ℕ) (name : List ℕ) (o0 o1 o2 : Outside) → Opened n name o0 o1 → OnlyReads n o1 o2 → Opened n name o0 o2
-opened_on n name o0 o1 o2 h only = record { known = λ bytes e. only.source bytes (h.known bytes e); ended = only.ended h.ended }
+opened_on n name o0 o1 o2 h only = record { named = ap (λ (s : SlotState). s.reads_from) only.slot ∙ h.named; known = λ bytes e. only.source bytes (h.known bytes e); ended = only.ended h.ended }
 
 -- what is known of a slot is what it gives
 pub opened_gives : (n : ℕ) (name : List ℕ) (o0 o1 : Outside) → Opened n name o0 o1 → GivesFile n name o0 o1
 opened_gives n name o0 o1 h = record {
+  named = h.named;
   known = λ bytes ne e. h.known bytes e;
   agrees = λ bytes ne e. at bytes (o1.slot n).left refl (o1.slot n).ending refl ne e;
 }
@@ -70,9 +71,9 @@ opened_gives n name o0 o1 h = record {
         let now : Some ((o1.slot n).given ++ left) ≡ Some bytes = rw l at e in record { more = left; bytes = sym (cc now); ending = rw s (h.ended s left l, refl) }
     at bytes (Some left) l (Some contents.failed) s ne e = absurd (ne s)
 
--- of a slot that couldn't be begun nothing is said
-pub unread_gives : (n : ℕ) (name : List ℕ) (o0 o1 : Outside) → (o1.slot n).ending ≡ Some contents.failed → GivesFile n name o0 o1
-unread_gives n name o0 o1 s = record { known = λ bytes ne e. absurd (ne s); agrees = λ bytes ne e. absurd (ne s) }
+-- of a slot that couldn't be begun nothing but its name is said
+pub unread_gives : (n : ℕ) (name : List ℕ) (o0 o1 : Outside) → (o1.slot n).reads_from ≡ Some name → (o1.slot n).ending ≡ Some contents.failed → GivesFile n name o0 o1
+unread_gives n name o0 o1 named s = record { named = named; known = λ bytes ne e. absurd (ne s); agrees = λ bytes ne e. absurd (ne s) }
 
 -- contents that agree with a slot that couldn't be begun
 pub unread_agrees : (s : SlotState) (c : Contents) → IsUnread s → Agrees s c → (c.bytes ≡ []) × (c.ending ≡ contents.failed)

@@ -17,13 +17,13 @@ use Rattle.sr_scan.specs.Left.{Refuses, is_fault}
 use Rattle.sr_emit.specs.declared.outcome.Outcome.{Outcome}
 use Rattle.sr_emit.specs.declared.outcome.Outcome.TheVariants.{Text, Limit, SourceFault, SinkFault, NoMemory}
 
--- a slot was only read: what was written to it, and whether it may be written, are as they were
+-- a slot was only read: what it writes to, what was written, and whether it may be written, are as they were
 pub record IsOnlyRead (old new : SlotState) : Type 0 where
   pub writes : new.writes ≡ old.writes
   pub sent : new.sent ≡ old.sent
   pub written : new.written ≡ old.written
   pub finished : new.finished ≡ old.finished
-  pub name : new.name ≡ old.name
+  pub writes_to : new.writes_to ≡ old.writes_to
 
 -- the slots from `old.begun` up to `count` were begun for reading, and nothing else changed
 pub record ReadsSlots (count : ℕ) (old new : Outside) : Type 0 where
@@ -38,13 +38,16 @@ pub record ReadsSlots (count : ℕ) (old new : Outside) : Type 0 where
 abbrev pub ReadsFiles : Outside → Outside → Type 0
 ReadsFiles old new = ReadsSlots 1 old new ⊎ ReadsSlots 2 old new
 
--- a slot was begun for a file, and then only read: what is known of the file is known of the slot
+-- a slot was begun to read the file of this name, and then only read: what is known of the file is known of the slot
 pub record Opened (n : ℕ) (name : List ℕ) (old new : Outside) : Type 0 where
+  pub named : (new.slot n).reads_from ≡ Some name
   pub known : StaysKnown (old.file name) (source (new.slot n))
   pub ended : NoneLeftAtEnd (new.slot n)
 
--- where no read of it failed and the bytes that it had are known, they are what it gives; and they are those of the file
+-- a slot was begun to read the file of this name, or tried to; where no read of it failed and the bytes that it had are known, they are
+-- what it gives; and they are those of the file
 pub record GivesFile (n : ℕ) (name : List ℕ) (old new : Outside) : Type 0 where
+  pub named : (new.slot n).reads_from ≡ Some name
   pub known : (bytes : List ℕ) → (new.slot n).ending ≢ Some contents.failed → old.file name ≡ Some bytes → source (new.slot n) ≡ Some bytes
   pub agrees : (bytes : List ℕ) → (new.slot n).ending ≢ Some contents.failed → source (new.slot n) ≡ Some bytes → Agrees (new.slot n) (whole bytes)
 

@@ -1,5 +1,5 @@
 -- What a read gives.
-use Rattle.std.proofs.Common.{◌≡◌, ◌∙◌, ℕ, ◌+◌, ◌<◌, ◌≤◌, min, Bool, true, List, [], ◌++◌, length, take, drop, Some, None, refl, sym, ap, arith, length-drop, length-take, length-append}
+use Rattle.std.proofs.Common.{◌≡◌, ◌∙◌, ℕ, ◌+◌, ◌<◌, ◌≤◌, min, Bool, true, List, [], ◌++◌, length, take, drop, Option, Some, None, refl, sym, ap, arith, length-drop, length-take, length-append}
 use Rattle.std.specs.Prelude.{if◌then◌else◌}
 use Rattle.std.proofs.lemmas.List.{take-append-drop, drop-drop, take_at, nil_from_length}
 use Rattle.std.proofs.Math.Seq.{take-add}
@@ -37,10 +37,10 @@ moves text buf old place n count front = record { moved = moved; none = none }
         let size : length buf ≡ length (take n (drop place text)) + length (drop n old) = ap length front ∙ length-append (take n (drop place text)) (drop n old) in
         sym is ∙ nil_from_length (drop (place + n) text) (omega (arith, length-drop (place + n) text, length-drop place text, length-take n (drop place text), length-drop n old))
 
-pub handed : (F P : List ℕ) (s : Standing) (n : ℕ) (e : Bool) (buf old : List ℕ) → reads_by s.usage ≡ true → n ≡ min (length (drop s.place (text_by F P s.usage))) (length old)
+pub handed : (from to : Option (List ℕ)) (F P : List ℕ) (s : Standing) (n : ℕ) (e : Bool) (buf old : List ℕ) → reads_by s.usage ≡ true → n ≡ min (length (drop s.place (text_by F P s.usage))) (length old)
     → buf ≡ take n (drop s.place (text_by F P s.usage)) ++ drop n old → (if e then Some ended else None) ≡ ending_after n buf
-    → Hands (state_by F P s) (state_by F P (record s { place = s.place + n; ended = e })) n buf
-handed F P s n e buf old reads count front end = record {
+    → Hands (state_by from to F P s) (state_by from to F P (record s { place = s.place + n; ended = e })) n buf
+handed from to F P s n e buf old reads count front end = record {
   given = given_more (text_by F P s.usage) s.place n ∙ ap (λ l. take s.place (text_by F P s.usage) ++ l) (sym (given_front (text_by F P s.usage) buf old s.place n (omega arith) front));
   ending = end;
   left = rw reads (moves (text_by F P s.usage) buf old s.place n count front);

@@ -32,9 +32,10 @@ writes_by Writing = true
 writes_by _ = false
 
 -- a slot by where it stands: no read of it failed, and nothing is written
-abbrev pub state_by : List ℕ → List ℕ → Standing → SlotState
-state_by formula proof s = record {
-  name = None;
+abbrev pub state_by : Option (List ℕ) → Option (List ℕ) → List ℕ → List ℕ → Standing → SlotState
+state_by reads_from writes_to formula proof s = record {
+  reads_from = reads_from;
+  writes_to = writes_to;
   given = take s.place (text_by formula proof s.usage);
   ending = if s.ended then Some ended else None;
   left = if reads_by s.usage then Some (drop s.place (text_by formula proof s.usage)) else None;
@@ -52,10 +53,13 @@ unused = record { usage = Unused; place = 0; ended = false; faults = 0 }
 abbrev pub standing_at : List Standing → ℕ → Standing
 standing_at slots n = slice_index_or slots n unused
 
-abbrev pub sure_outside : List ℕ → List ℕ → ℕ → List Standing → Outside
-sure_outside formula proof begun slots = record {
+abbrev pub name_at : List (Option (List ℕ)) → ℕ → Option (List ℕ)
+name_at names n = slice_index_or names n None
+
+abbrev pub sure_outside : List ℕ → List ℕ → ℕ → List (Option (List ℕ)) → List (Option (List ℕ)) → List Standing → Outside
+sure_outside formula proof begun reads_from writes_to slots = record {
   begun = begun;
-  slot = λ n. state_by formula proof (standing_at slots n);
+  slot = λ n. state_by (name_at reads_from n) (name_at writes_to n) formula proof (standing_at slots n);
   file = λ name. file_by formula proof (usage_of name);
 }
 

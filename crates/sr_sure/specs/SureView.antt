@@ -6,7 +6,7 @@ use Rattle.sr_sure.specs.Sure.{sure_outside}
 use Rattle.sr_sure.specs.declared.sure.SureDesk.{SureDesk}
 
 abbrev pub outside_of : SureDesk → Outside
-outside_of d = sure_outside d.formula d.proof d.begun d.slots
+outside_of d = sure_outside d.formula d.proof d.begun d.reads_from d.writes_to d.slots
 
 -- the texts are the files of these names
 pub record HasTexts (formula proof : List ℕ) (o : Outside) : Type 0 where

@@ -4,7 +4,7 @@ ghost use Rattle.sr_sure.specs.Sure.{AllFit, AllUnused, AllSure};
 
 use crate::standing::{Standing, Usage, begun, copy_front, is_end, raise, usage_of};
 use sr_base::ByteList;
-use sr_desk::{CallError, Desk, Slot};
+use sr_desk::{CallError, Desk, FileName, Slot, no_names};
 
 /// Two texts in memory, as the files `formula` and `proof`. A file of any other name is empty. No read fails, and each call that
 /// is to write does.
@@ -13,6 +13,8 @@ pub struct SureDesk {
     formula: ByteList,
     proof: ByteList,
     begun: u8,
+    reads_from: [FileName; 9],
+    writes_to: [FileName; 9],
     slots: [Standing; 9],
     ghost fit: { AllFit formula proof slots },
     ghost later: { AllUnused begun slots },
@@ -33,13 +35,15 @@ impl Desk for SureDesk {
 
     fn begin_read(&mut self, name: &str) -> Result<Slot, CallError> {
         let slot = Slot { number: self.begun };
+        self.reads_from[slot.number as usize] = FileName::of(name);
         self.slots[slot.number as usize] = begun(usage_of(name));
         self.begun += 1;
         Ok(slot)
     }
 
-    fn begin_write(&mut self, _name: &str) -> Result<Slot, CallError> {
+    fn begin_write(&mut self, name: &str) -> Result<Slot, CallError> {
         let slot = Slot { number: self.begun };
+        self.writes_to[slot.number as usize] = FileName::of(name);
         self.slots[slot.number as usize] = begun(Usage::Writing);
         self.begun += 1;
         Ok(slot)
@@ -81,6 +85,8 @@ impl SureDesk {
             formula,
             proof,
             begun: 0,
+            reads_from: no_names(),
+            writes_to: no_names(),
             slots: [UNUSED; 9],
         }
     }

@@ -139,6 +139,7 @@ formula_read lim s f r mid new one reads_it slots h = at r h
 -- what a slot gives is the same as long as it is the same, and so are the files
 pub gives_still : (n : ℕ) (name : List ℕ) (a b old new : Outside) → b.file ≡ a.file → new.slot n ≡ old.slot n → GivesFile n name b old → GivesFile n name a new
 gives_still n name a b old new files slots g = record {
+  named = ap (λ (y : SlotState). y.reads_from) slots ∙ g.named;
   known = λ bytes e f. rw slots (g.known bytes (λ x. e (ap (λ (y : SlotState). y.ending) slots ∙ x)) (ap (λ (y : List ℕ → Option (List ℕ)). y name) files ∙ f));
   agrees = λ bytes e f. rw slots (g.agrees bytes (λ x. e (ap (λ (y : SlotState). y.ending) slots ∙ x)) (subst (λ (y : SlotState). source y ≡ Some bytes) slots f));
 }

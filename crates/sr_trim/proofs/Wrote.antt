@@ -4,9 +4,7 @@ use Rattle.std.specs.Prelude.{option_map}
 use Rattle.sr_base.specs.declared.names.Which.TheVariants as which
 use Rattle.sr_model.specs.Dimacs.{Formula}
 use Rattle.sr_model.specs.Meeting.{Step}
-use Rattle.sr_desk.specs.Outside.{Outside, Rose}
-use Rattle.sr_desk.specs.Calls.{BeginsWrite}
-use Rattle.sr_files.specs.Written.{IsCutOff}
+use Rattle.sr_desk.specs.Outside.{Outside}
 use Rattle.sr_emit.specs.declared.outcome.Outcome.{Outcome}
 use Rattle.sr_emit.specs.declared.outcome.Outcome.TheVariants as outcome
 use Rattle.sr_emit.specs.Status.{is_verified}
@@ -23,20 +21,6 @@ use Rattle.sr_trim.specs.Deciding.{trims}
 use Rattle.sr_trim.specs.Passing.{kept_steps, IsPlaced, PreparesTo, PassesTo}
 use Rattle.sr_trim.specs.Outputs.{WritesOne, WritesTwo, asked_lsr, asked_core}
 use Rattle.sr_trim.proofs.Passed.{core_text_same, passed}
-
--- the file couldn't be begun
-pub not_begun : {E : Type 0} (name bytes : List ℕ) (old new : Outside) (e : E) → BeginsWrite {E = E} old new name (Err e) → Rose (old.slot old.begun).faults (new.slot old.begun).faults
-    → IsCutOff name bytes old new
-not_begun {E} name bytes old new e b rose = record {
-  only = record {
-    begun = b.begun;
-    elsewhere = b.elsewhere;
-    later = b.later;
-    file = λ is other ne. b.file other ne;
-  };
-  cut = inl b.slot;
-  rose = rose;
-}
 
 verified_is : (o : Outcome) → is_verified o ≡ true → o ≡ outcome.Verified
 verified_is outcome.Verified e = refl

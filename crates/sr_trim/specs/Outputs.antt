@@ -13,7 +13,7 @@ use Rattle.sr_trim.specs.Said.{TrimSaid}
 use Rattle.sr_trim.specs.Trimming.{lsr_text, core_text}
 use Rattle.sr_trim.specs.Deciding.{Decision, stops, trims}
 
--- a file was written whole, or a call on it failed
+-- a file was written whole under this name, or a call on it failed
 abbrev pub WritesFile : {E : Type 0} → List ℕ → List ℕ → Outside → Outside → Result (Unit {0}) E → Type 0
 WritesFile name bytes old new (Ok v) = IsWritten name bytes old new
 WritesFile name bytes old new (Err e) = IsCutOff name bytes old new

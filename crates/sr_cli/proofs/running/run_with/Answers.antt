@@ -8,7 +8,7 @@ use Rattle.sr_emit.specs.declared.outcome.Outcome.TheVariants as outcome
 use Rattle.sr_emit.specs.declared.report.Command.TheVariants as command
 use Rattle.sr_cli.specs.declared.words.Task.{Task}
 use Rattle.sr_cli.specs.declared.words.WordsError.{WordsError}
-use Rattle.sr_cli.proofs.Dispatch.{words_out, words_out_say, words_out_give, IsTold, refused_told, help_told, told_runs, told_sound, told_printed, told_cause, told_files, told_touches, told_memory, says_for}
+use Rattle.sr_cli.proofs.Dispatch.{words_out, words_out_say, words_out_give, words_out_touch, IsTold, refused_told, help_told, told_runs, told_sound, told_printed, told_cause, told_files, told_touches, told_memory, says_for}
 use Rattle.sr_cli.proofs.Unwritten.{out_unwritten, unwritten_for}
 use Rattle.sr_cli.proofs.running.run_with.Goals as goal
 
@@ -20,6 +20,9 @@ returns-in-Err-NoMemory-clause-printed g c = words_out_say c.args.limits.now (as
 
 pub returns-in-Err-NoMemory-clause-files : goal.returns-in-Err-NoMemory-clause-files
 returns-in-Err-NoMemory-clause-files g c = words_out_give (asked (map string_bytes c.args.words.now)) (g.D.Desk.outside c.args.desk.now) c.requires
+
+pub returns-in-Err-NoMemory-clause-only : goal.returns-in-Err-NoMemory-clause-only
+returns-in-Err-NoMemory-clause-only g c = words_out_touch (asked (map string_bytes c.args.words.now)) (g.D.Desk.outside c.args.desk.now) c.requires
 
 pub returns-in-Err-Refused : goal.returns-in-Err-Refused
 returns-in-Err-Refused g c =

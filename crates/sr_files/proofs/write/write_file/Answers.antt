@@ -1,5 +1,9 @@
-use Rattle.sr_files.proofs.Writing.{write_failed, file_written, finish_failed}
+use Rattle.sr_files.proofs.Writing.{not_begun, write_failed, file_written, finish_failed}
 use Rattle.sr_files.proofs.write.write_file.Goals as goal
+
+pub returns-in-Err-clause-err : goal.returns-in-Err-clause-err
+returns-in-Err-clause-err g c =
+    not_begun c.args.name.now c.args.bytes.now (g.D.Desk.outside c.args.desk.now) (g.D.Desk.outside c.begin_write.new.self) c.in-Err.field-0 c.in-Err.ensures.begins c.in-Err.ensures.cause
 
 pub returns-in-Err-put_all-clause-err : goal.returns-in-Err-put_all-clause-err
 returns-in-Err-put_all-clause-err g c =

@@ -1,6 +1,10 @@
-use Rattle.sr_files.proofs.Writing.{write_failed, file_written, finish_failed}
+use Rattle.sr_files.proofs.Writing.{not_begun, write_failed, file_written, finish_failed}
 use Rattle.sr_trim.specs.Trimming.{core_text}
 use Rattle.sr_trim.proofs.writing.write_core_file.Goals as goal
+
+pub returns-in-Err : goal.returns-in-Err
+returns-in-Err g c ss is =
+    not_begun c.args.name.now (core_text c.args.formula.now ss) (g.D.Desk.outside c.args.desk.now) (g.D.Desk.outside c.begin_write.new.self) c.in-Err.field-0 c.in-Err.ensures.begins c.in-Err.ensures.cause
 
 pub returns-in-Err-write_core : goal.returns-in-Err-write_core
 returns-in-Err-write_core g c ss is =

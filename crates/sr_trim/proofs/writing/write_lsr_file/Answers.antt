@@ -1,8 +1,7 @@
-use Rattle.sr_files.proofs.Writing.{write_failed, file_written, finish_failed}
+use Rattle.sr_files.proofs.Writing.{not_begun, write_failed, file_written, finish_failed}
 use Rattle.sr_trim.specs.Trimming.{lsr_text}
 use Rattle.sr_trim.specs.Passing.{kept_steps}
 use Rattle.sr_trim.proofs.Passed.{as_kept}
-use Rattle.sr_trim.proofs.Wrote.{not_begun}
 use Rattle.sr_trim.proofs.writing.write_lsr_file.Goals as goal
 
 pub returns-in-Err : goal.returns-in-Err

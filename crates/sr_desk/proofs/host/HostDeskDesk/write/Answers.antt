@@ -14,7 +14,7 @@ returns-in-Some-clause-bytes g c =
     record {
       within = c.in-Some.ensures.within;
       some = c.in-Some.ensures.some;
-      sends = sends-ok g.R.File.Read.remaining g.R.File.Write.contents (record { begun = d.begun; reads = d.reads; writes = d.writes; finished = d.finished; last = d.last; faults = d.faults; given = d.given; sent = d.sent; sources = d.sources; targets = d.targets }) c.args.slot.number c.add.new.self c.args.piece.now c.in-Some.count c.write_to.new.target lt lt_targets
+      sends = sends-ok g.R.File.Read.remaining g.R.File.Write.contents (record { begun = d.begun; reads_from = d.reads_from; writes_to = d.writes_to; reads = d.reads; writes = d.writes; finished = d.finished; last = d.last; faults = d.faults; given = d.given; sent = d.sent; sources = d.sources; targets = d.targets }) c.args.slot.number c.add.new.self c.args.piece.now c.in-Some.count c.write_to.new.target lt lt_targets
           (rw target c.in-Some.ensures.told) (rw had c.add.ensures);
     }
 
@@ -28,4 +28,4 @@ returns-in-None-clause-bytes g c =
     let lt : c.args.slot.number < length c.args.self.now.targets = search rules in
     let target = get_or_default c.args.self.now.targets c.args.slot.number Nothing c.index-self-n.result lt in
     let d = c.args.self.now in
-    sends-err g.R.File.Read.remaining g.R.File.Write.contents (record { begun = d.begun; reads = d.reads; writes = d.writes; finished = d.finished; last = d.last; faults = d.faults; given = d.given; sent = d.sent; sources = d.sources; targets = d.targets }) c.args.slot.number c.raise.new.faults c.write_to.new.target lt (rw target (c.in-None.ensures.none refl))
+    sends-err g.R.File.Read.remaining g.R.File.Write.contents (record { begun = d.begun; reads_from = d.reads_from; writes_to = d.writes_to; reads = d.reads; writes = d.writes; finished = d.finished; last = d.last; faults = d.faults; given = d.given; sent = d.sent; sources = d.sources; targets = d.targets }) c.args.slot.number c.raise.new.faults c.write_to.new.target lt (rw target (c.in-None.ensures.none refl))

@@ -17,7 +17,7 @@ returns-in-Ok-clause-ok c =
     let len : length N ≡ length T = same_length c.args.self.now.versions.items in
     rw (names, c.in-Ok.ensures.texts) record {
       begun = refl;
-      slots = λ n. state-push N T c.args.self.now.out.items name bytes (usage_at U n) _ _ _ len (c.args.self.now.fit n);
+      slots = λ n. state-push _ _ T c.args.self.now.out.items bytes (usage_at U n) _ _ _ (c.args.self.now.fit n);
       file = file-push N T name bytes len;
       own = λ n. owner-push N T name (usage_at U n) len (c.args.self.now.fit n);
       others = λ other ne. file-push_other N T name bytes other len ne;

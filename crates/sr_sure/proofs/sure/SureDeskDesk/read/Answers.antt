@@ -10,5 +10,5 @@ returns-clause-bytes c =
     let small : c.args.slot.number < length c.args.self.now.slots = search rules in
     let s = standing_at self.slots c.args.slot.number in
     rw (get_or-set_same self.slots c.args.slot.number (record s { place = s.place + c.copy_front-count.result; ended = c.is_end.result }) unused small)
-    (handed self.formula self.proof s c.copy_front-count.result c.is_end.result c.copy_front-count.new.buf c.args.buf.now (search rules)
+    (handed _ _ self.formula self.proof s c.copy_front-count.result c.is_end.result c.copy_front-count.new.buf c.args.buf.now (search rules)
     (rw c.rest.ensures.bytes at c.copy_front-count.ensures.count) (rw c.rest.ensures.bytes at c.copy_front-count.ensures.front) c.is_end.ensures)
