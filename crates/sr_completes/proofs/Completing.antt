@@ -79,7 +79,7 @@ fits_next lim s f before (k ∷ ls) l more [] d later x keep st a = absurd a
 fits_next lim s f before (k ∷ ls) l more (e ∷ first) d later x keep st a =
     subst (λ b. limit_of (loading lim s f b) l ≡ None) (append_assoc before (e ∷ []) first) (fits_next lim s f (before ++ e ∷ []) ls l more first d later x.1 keep (after_done st e) a.1)
 
-did_more : (keep : Bool) (st : Standing) (ls : List Line) (ds : List Done) (l : Line) (x : Done) → AllDid keep st ls ds → Did keep (after_all st ds).alive l x → AllDid keep st (ls ++ l ∷ []) (ds ++ x ∷ [])
+pub did_more : (keep : Bool) (st : Standing) (ls : List Line) (ds : List Done) (l : Line) (x : Done) → AllDid keep st ls ds → Did keep (after_all st ds).alive l x → AllDid keep st (ls ++ l ∷ []) (ds ++ x ∷ [])
 did_more keep st [] [] l x a d = (d, tt)
 did_more keep st [] (e ∷ ds) l x a d = absurd a
 did_more keep st (k ∷ ls) [] l x a d = absurd a
@@ -169,7 +169,7 @@ one_file w (Some n) (Some b) old new o (inr x) = inr x.1
 one_file w (Some n) None old new o x = inl x.1
 one_file w None b old new o x = inl x.1
 
-two_files : (s : TrimSaid) (f : Formula) (steps : List Step) (old new : Outside) (o : Outcome) → WritesTwo s.lsr (asked_lsr s f steps) s.core (asked_core s f steps) old new o → IsVerifiedOrUnwritten o
+pub two_files : (s : TrimSaid) (f : Formula) (steps : List Step) (old new : Outside) (o : Outcome) → WritesTwo s.lsr (asked_lsr s f steps) s.core (asked_core s f steps) old new o → IsVerifiedOrUnwritten o
 two_files s f steps old new o (inl b) = at (one_file which.Core s.core (asked_core s f steps) b.mid new o b.core_written)
   where
     at : (o ≡ outcome.Verified) ⊎ (o ≡ outcome.SinkFault which.Core) → IsVerifiedOrUnwritten o
