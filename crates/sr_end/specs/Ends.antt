@@ -1,19 +1,26 @@
 -- With which status the process ends.
-use Rattle.std.specs.Prelude.{◌≡◌, ◌⊎◌, ℕ, List}
-use Rattle.std.specs.Process.{exit_status}
-use Rattle.std.specs.declared.process.ExitCode.{ExitCode}
-use Rattle.sr_base.specs.Limits.{shipped}
+use Rattle.std.specs.Prelude.{◌≡◌, ℕ, Result, Ok, Err}
 use Rattle.sr_desk.specs.Outside.{Outside}
 use Rattle.sr_emit.specs.Status.{status_of}
-use Rattle.sr_emit.specs.declared.outcome.Outcome.{Outcome}
-use Rattle.sr_cli.specs.Words.{asked}
-use Rattle.sr_cli.specs.Run.{Runs}
+use Rattle.sr_end.specs.Words.{words_of, status_without}
+use Rattle.sr_end.specs.Runs.{HasRun}
+use Rattle.sr_end.specs.declared.line.CommandLine.{CommandLine}
+use Rattle.sr_end.specs.declared.line.NoWords.{NoWords}
+use Rattle.sr_end.specs.declared.ran.Ran.{Ran}
 
--- these words were run, and the status is that of the outcome
-abbrev pub EndsAs : List (List ℕ) → Outside → Outside → ExitCode → Type 0
-EndsAs words old new e = (o : Outcome) × (Runs shipped (asked words) old new o × (exit_status e ≡ status_of o))
+-- with the status of the run's outcome, or with that of why there are no words
+abbrev pub end_status : {D : Type 0} {g : _} → Result (Ran D g) NoWords → ℕ
+end_status (Ok r) = status_of r.outcome
+end_status (Err n) = status_without n
 
--- some words were run, or there was no memory for them, or they couldn't be read
-abbrev pub Ends : ExitCode → Type 0
-Ends e = ((words : List (List ℕ)) × ((old : Outside) × ((new : Outside) × EndsAs words old new e)))
-    ⊎ ((exit_status e ≡ 7) ⊎ (exit_status e ≡ 9))
+-- where there are words, they were run on an outside of which nothing was used
+abbrev pub Ends : {D : Type 0} {g : _} → Result (Ran D g) NoWords → Type 0
+Ends {g = g} (Ok r) = ∥ HasRun (words_of r.line) (g.outside r.desk) r.outcome ∥₁
+Ends (Err n) = Unit {0}
+
+-- these words were run, or there were none
+abbrev pub IsEndOf : {D : Type 0} {g : _} → Result CommandLine NoWords → Result (Ran D g) NoWords → Type 0
+IsEndOf (Ok c) (Ok r) = r.line ≡ c
+IsEndOf (Ok c) (Err n) = ⊥
+IsEndOf (Err n) (Ok r) = ⊥
+IsEndOf (Err n) (Err m) = m ≡ n

@@ -2,5 +2,9 @@
 #![tactic(auto)]
 
 mod ending;
+mod line;
+mod ran;
+mod shipped;
 
 pub use ending::{Ended, end};
+pub use shipped::shipped_limits;
